@@ -1,0 +1,3 @@
+-- Laws that more than one crate cites.
+pub mod Order
+pub mod First
