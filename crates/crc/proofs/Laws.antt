@@ -6,7 +6,7 @@ use mathlib.Core.List.{List, [], _∷_, _++_}
 use native.Mathlib.Omega.{arith}
 use lib.ListN.{length}
 use lib.Bits.{bitXor, xor-lt}
-use Rattle.crc.specs.Check.{bitStep, bitsStep, byteStep, crcOver, check, start}
+use Rattle.crc.specs.Check.{polynomial, bitStep, bitsStep, byteStep, crcOver, check}
 use Rattle.crc.proofs.Linear.{byte-linear}
 
 pub over-empty : (c : ℕ) → crcOver c [] ≡ c
@@ -22,7 +22,7 @@ bit-lt : (c b : ℕ) → bitStep c b < 2 ^ 16
 unfolding bitStep
 bit-lt c b =
     let t = bitXor (c / 2 ^ 15) b % 2 in
-    xor-lt 16 (c * 2 % 2 ^ 16) (t * 0x1021) (omega arith) (omega arith)
+    xor-lt 16 (c * 2 % 2 ^ 16) (t * polynomial) (omega arith) (omega arith)
 
 bits-lt : (k c v : ℕ) → c < 2 ^ 16 → bitsStep c k v < 2 ^ 16
 unfolding bitsStep

@@ -12,8 +12,8 @@ use lib.Bits.{bitXor, xor-shr, xor-add-and, xor-block, xor-comm, xor-self, xor-z
 pub xor-assoc : (a b c : ℕ) → bitXor (bitXor a b) c ≡ bitXor a (bitXor b c)
 xor-assoc a = bin-ind (λ (n : ℕ). (b c : ℕ) → bitXor (bitXor n b) c ≡ bitXor n (bitXor b c)) (λ b c. refl)
     (λ n ih b c. let half : bitXor (bitXor n b) c / 2 ≡ bitXor n (bitXor b c) / 2 =
-        xor-shr (bitXor n b) c 1 ∙ ap (λ (x : ℕ). bitXor x (c / 2)) (xor-shr n b 1) ∙ ih (b / 2) (c / 2)
-        ∙ sym (xor-shr n (bitXor b c) 1 ∙ ap (bitXor (n / 2)) (xor-shr b c 1)) in
+    xor-shr (bitXor n b) c 1 ∙ ap (λ (x : ℕ). bitXor x (c / 2)) (xor-shr n b 1) ∙ ih (b / 2) (c / 2)
+    ∙ sym (xor-shr n (bitXor b c) 1 ∙ ap (bitXor (n / 2)) (xor-shr b c 1)) in
     omega (arith, xor-add-and (bitXor n b) c, xor-add-and n b, xor-add-and n (bitXor b c), xor-add-and b c)) a
 
 -- a shift to the left goes into both

@@ -286,9 +286,10 @@ pub fn update(crc: u16, bytes: &[u8]) -> u16
     ensures { λ r. ⌜ r ≡ crcOver crc (now (bytes .entry)) ⌝ }
 {
     let t = table();
+    let n = bytes.len();
     let mut c = crc;
     let mut i = 0;
-    while i < bytes.len() {
+    while i < n {
         c = byte_step(&t, c, bytes[i]);
         i += 1;
     }

@@ -20,8 +20,8 @@ unfolding crcTable
 returns c =
     let at = bitXor (c .before .args .crc / 256) (c .before .args .byte) in
     let found : getD (c .before .args .t .now) at 0 ≡ entry at =
-        ap (λ (l : List ℕ). getD l at 0) (c .before .pre) ∙ rows-at entry 256 at (below (c .before)) in
-    rw found (sym (bytewise (c .before .args .crc) (c .before .args .byte) (omega arith)))
+    ap (λ (l : List ℕ). getD l at 0) (c .before .pre) ∙ rows-at entry 256 at (below (c .before)) in
+    ap (bitXor (c .before .args .crc % 256 * 256)) found ∙ sym (bytewise (c .before .args .crc) (c .before .args .byte) (omega arith))
 
 pub byte-step-spec : {M : Type 1} → statement M
 byte-step-spec =

@@ -13,10 +13,10 @@ use Rattle.crc.proofs.update.Statement.{statement}
 use Rattle.crc.proofs.update.Tie as tie
 
 abbrev Inv-loop : tie.InvT-loop
-Inv-loop crc bytes t c₀ i₀ c i = (i ≤ length bytes) × (crcOver c (drop i bytes) ≡ crcOver crc bytes)
+Inv-loop crc bytes t n c₀ i₀ c i = (i ≤ length bytes) × (crcOver c (drop i bytes) ≡ crcOver crc bytes)
 
 abbrev μ-loop : tie.MeasureT-loop
-μ-loop crc bytes t c₀ i₀ c i = length bytes - i
+μ-loop crc bytes t n c₀ i₀ c i = length bytes - i
 
 loop-holds : tie.Need-loop-holds Inv-loop μ-loop
 loop-holds c = (omega arith, refl)
