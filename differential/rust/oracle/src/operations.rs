@@ -1,0 +1,432 @@
+//! The current operation and the current upload: stepped by hand, or run against the device.
+
+use std::marker::PhantomData;
+
+use rockusb::{
+    device::{Error, Transport},
+    operation::{MaskRomOperation, OperationSteps, Transferred, UsbOperationError, UsbStep},
+    protocol::{
+        COMMAND_BLOCK_BYTES, Capability, ChipInfo, FlashId, FlashInfo, SECTOR_SIZE, StorageIndex,
+    },
+};
+
+use crate::{
+    blocks::{asked, flash_id_bytes, output, reset_opcode, show_index, storage_index},
+    stand::{Room, Stand, transport_refusal},
+    text::{Answer, Stop, Tokens, four, show},
+};
+
+/// Above it the Rust narrows the sector count.
+pub const SECTOR_BYTES_LIMIT: u64 = 65_535 * SECTOR_SIZE;
+
+pub fn operation_refusal(e: &UsbOperationError) -> String {
+    match e {
+        UsbOperationError::TagMismatch => "10".into(),
+        UsbOperationError::InvalidStatusSignature(s) => format!("11 {}", four(s)),
+        UsbOperationError::InvalidStatusStatus(b) => format!("12 {b}"),
+        UsbOperationError::InvalidStatusLength => "13".into(),
+        UsbOperationError::ReplyParseFailure => "14".into(),
+        UsbOperationError::FailedStatus => "15".into(),
+    }
+}
+
+/// What a finished operation gives, with a space before it.
+trait Value {
+    fn show(&self) -> String;
+}
+
+impl Value for ChipInfo {
+    fn show(&self) -> String {
+        format!(" {}", show(self.inner()))
+    }
+}
+
+impl Value for FlashId {
+    fn show(&self) -> String {
+        format!(" {}", show(&flash_id_bytes(self)))
+    }
+}
+
+impl Value for FlashInfo {
+    fn show(&self) -> String {
+        format!(" {}", show(self.inner()))
+    }
+}
+
+impl Value for Capability {
+    fn show(&self) -> String {
+        format!(" {}", show(self.inner()))
+    }
+}
+
+impl Value for StorageIndex {
+    fn show(&self) -> String {
+        format!(" {}", show_index(*self))
+    }
+}
+
+impl Value for Transferred {
+    fn show(&self) -> String {
+        format!(" {}", u32::from(*self))
+    }
+}
+
+impl Value for () {
+    fn show(&self) -> String {
+        String::new()
+    }
+}
+
+/// A slice that the Rust lent at a read step; it stays good until the operation is stepped again or dropped.
+#[derive(Clone, Copy)]
+struct Asked {
+    start: *mut u8,
+    len: usize,
+}
+
+enum Step {
+    Write(Vec<u8>),
+    Read(Asked),
+    Control { header: String, data: Vec<u8> },
+    Finished(Result<String, UsbOperationError>),
+}
+
+#[derive(Clone, Copy)]
+enum Last {
+    Nothing,
+    Sent,
+    Asked(Asked),
+    Finished,
+}
+
+/// How a run ended.
+enum End {
+    Finished(String),
+    Refused(String),
+    OutOfSteps,
+    NoRoom,
+}
+
+struct Ran {
+    end: End,
+    steps: u64,
+    last: Last,
+}
+
+/// `OperationSteps` with its result's type hidden.
+trait Steps {
+    fn step(&mut self) -> Step;
+    fn run(&mut self, stand: &mut Stand, budget: u64) -> Ran;
+}
+
+struct Typed<O, T>(O, PhantomData<T>);
+
+fn typed<O: OperationSteps<T> + 'static, T: Value + 'static>(operation: O) -> Box<dyn Steps> {
+    Box::new(Typed(operation, PhantomData))
+}
+
+fn asked_slice(data: &mut [u8]) -> Asked {
+    Asked { start: data.as_mut_ptr(), len: data.len() }
+}
+
+impl<O: OperationSteps<T>, T: Value> Steps for Typed<O, T> {
+    fn step(&mut self) -> Step {
+        match self.0.step() {
+            UsbStep::WriteBulk { data } => Step::Write(data.to_vec()),
+            UsbStep::ReadBulk { data } => Step::Read(asked_slice(data)),
+            UsbStep::WriteControl { request_type, request, value, index, data } => Step::Control {
+                header: format!("{request_type} {request} {value} {index}"),
+                data: data.to_vec(),
+            },
+            UsbStep::Finished(result) => Step::Finished(result.map(|v| v.show())),
+        }
+    }
+
+    fn run(&mut self, stand: &mut Stand, budget: u64) -> Ran {
+        let mut budgeted = Budgeted {
+            operation: &mut self.0,
+            left: budget,
+            steps: 0,
+            last: Last::Nothing,
+            cut_short: None,
+            room: stand.room(),
+        };
+        let result = stand.transport().handle_operation(&mut budgeted);
+        let end = match (budgeted.cut_short.take(), result) {
+            (Some(end), _) => end,
+            (None, Ok(value)) => End::Finished(value.show()),
+            (None, Err(Error::OperationError(e))) => End::Refused(operation_refusal(&e)),
+            (None, Err(Error::UsbError(e))) => End::Refused(transport_refusal(&e)),
+        };
+        let last = match (&end, budgeted.last) {
+            // A transport that was served has had its giving.
+            (End::OutOfSteps, Last::Asked(_)) => Last::Sent,
+            (_, last) => last,
+        };
+        Ran { end, steps: budgeted.steps, last }
+    }
+}
+
+/// Counts the steps that a transport takes, and ends its loop when the budget or the store is used up.
+struct Budgeted<'a, O> {
+    operation: &'a mut O,
+    left: u64,
+    steps: u64,
+    last: Last,
+    cut_short: Option<End>,
+    room: Room,
+}
+
+impl<O: OperationSteps<T>, T> OperationSteps<T> for &mut Budgeted<'_, O> {
+    fn step(&mut self) -> UsbStep<'_, T> {
+        // Leaves the transport's loop; `cut_short` says that the refusal is not one of the Rust's.
+        let leave = UsbStep::Finished(Err(UsbOperationError::TagMismatch));
+        if self.left == 0 {
+            self.cut_short = Some(End::OutOfSteps);
+            return leave;
+        }
+        self.left -= 1;
+        self.steps += 1;
+        let mut step = self.operation.step();
+        self.last = match &mut step {
+            UsbStep::ReadBulk { data } => Last::Asked(asked_slice(data)),
+            UsbStep::Finished(_) => Last::Finished,
+            UsbStep::WriteControl { index, data, .. } => {
+                if !self.room.take(*index, data.len()) {
+                    self.cut_short = Some(End::NoRoom);
+                    return leave;
+                }
+                Last::Sent
+            }
+            UsbStep::WriteBulk { .. } => Last::Sent,
+        };
+        step
+    }
+}
+
+/// Bytes that stay at one place while an operation or upload borrows them; freed after it.
+struct Lent(*mut [u8]);
+
+impl Lent {
+    fn new(bytes: Vec<u8>) -> Self {
+        Lent(Box::into_raw(bytes.into_boxed_slice()))
+    }
+
+    fn bytes(&self) -> &'static [u8] {
+        unsafe { &*self.0 }
+    }
+
+    fn bytes_mut(&self) -> &'static mut [u8] {
+        unsafe { &mut *self.0 }
+    }
+}
+
+impl Drop for Lent {
+    fn drop(&mut self) {
+        drop(unsafe { Box::from_raw(self.0) });
+    }
+}
+
+pub struct Operation {
+    // Before `data`, which it borrows: fields are dropped in this order.
+    steps: Box<dyn Steps>,
+    data: Lent,
+    asked: Option<Asked>,
+    at_command: bool,
+}
+
+pub fn start(tokens: &mut Tokens) -> Result<Operation, Stop> {
+    let op = tokens.word()?;
+    fastrand::choose(tokens.u32()?);
+    let mut data = Lent::new(Vec::new());
+    let steps = match op {
+        "chp" => typed(rockusb::operation::chip_info()),
+        "fid" => typed(rockusb::operation::flash_id()),
+        "fin" => typed(rockusb::operation::flash_info()),
+        "cap" => typed(rockusb::operation::capability()),
+        "sto" => typed(rockusb::operation::storage()),
+        "era" => typed(rockusb::operation::erase_lba(tokens.u32()?, tokens.u16()?)),
+        "erf" => typed(rockusb::operation::erase_force(tokens.u32()?, tokens.u16()?)),
+        "rst" => typed(rockusb::operation::reset_device(reset_opcode(tokens)?)),
+        "swi" => typed(rockusb::operation::switch_storage(storage_index(tokens)?)),
+        "rdl" | "wrl" => {
+            let first = tokens.u32()?;
+            data = Lent::new(tokens.data()?);
+            start_sectors(op, first, &data)?
+        }
+        _ => return Err(Stop::Unreadable),
+    };
+    tokens.end()?;
+    Ok(Operation { steps, data, asked: None, at_command: true })
+}
+
+fn start_sectors(op: &str, first: u32, data: &Lent) -> Result<Box<dyn Steps>, Stop> {
+    if data.bytes().len() as u64 > SECTOR_BYTES_LIMIT {
+        return Err(Stop::Outside);
+    }
+    asked(|| match op {
+        "rdl" => typed(rockusb::operation::read_lba(first, data.bytes_mut())),
+        _ => typed(rockusb::operation::write_lba(first, data.bytes())),
+    })
+}
+
+impl Operation {
+    pub fn step(&mut self, tokens: &mut Tokens) -> Answer {
+        let mut out = output(tokens)?;
+        tokens.end()?;
+        if self.at_command && out.len() < COMMAND_BLOCK_BYTES {
+            return Err(Stop::Outside);
+        }
+        let at_command = self.at_command;
+        self.at_command = false;
+        self.asked = None;
+        let said = match self.steps.step() {
+            Step::Write(data) => {
+                if at_command {
+                    out[..data.len()].copy_from_slice(&data);
+                }
+                format!("0 1 {}", show(&data))
+            }
+            Step::Read(asked) => {
+                self.asked = Some(asked);
+                format!("0 2 {}", asked.len)
+            }
+            Step::Finished(result) => {
+                self.at_command = true;
+                finished(result)
+            }
+            Step::Control { .. } => unreachable!("an operation sends no control transfer"),
+        };
+        Ok(format!("{said} | {} | {}", show(&out), show(self.data.bytes())))
+    }
+
+    pub fn give(&mut self, tokens: &mut Tokens) -> Answer {
+        let bytes = tokens.data()?;
+        tokens.end()?;
+        match self.asked {
+            Some(asked) if bytes.len() <= asked.len => {
+                unsafe { std::ptr::copy(bytes.as_ptr(), asked.start, bytes.len()) };
+                self.asked = None;
+                Ok(format!("0 | {}", show(self.data.bytes())))
+            }
+            _ => Err(Stop::Outside),
+        }
+    }
+
+    pub fn run(&mut self, tokens: &mut Tokens, stand: &mut Stand) -> Answer {
+        let budget = tokens.u32()?;
+        tokens.end()?;
+        let ran = self.steps.run(stand, budget.into());
+        match ran.last {
+            Last::Nothing => {}
+            Last::Sent => self.stand_at(None, false),
+            Last::Asked(asked) => self.stand_at(Some(asked), false),
+            Last::Finished => self.stand_at(None, true),
+        }
+        let data = show(self.data.bytes());
+        Ok(format!("{} | {} | {data} | {}", said(ran.end)?, ran.steps, stand.show()))
+    }
+
+    fn stand_at(&mut self, asked: Option<Asked>, at_command: bool) {
+        self.asked = asked;
+        self.at_command = at_command;
+    }
+}
+
+fn said(end: End) -> Answer {
+    match end {
+        End::Finished(value) => Ok(format!("0{value}")),
+        End::Refused(refusal) => Ok(refusal),
+        End::OutOfSteps => Ok("28".into()),
+        End::NoRoom => Err(Stop::Outside),
+    }
+}
+
+pub struct Upload {
+    steps: Box<dyn Steps>,
+    area: u16,
+    _image: Lent,
+}
+
+pub fn start_upload(tokens: &mut Tokens) -> Result<Upload, Stop> {
+    let area = tokens.u16()?;
+    let check = tokens.flag()?;
+    let image = tokens.data()?;
+    tokens.end()?;
+    Ok(upload_of(area, check, image))
+}
+
+fn upload_of(area: u16, check: bool, image: Vec<u8>) -> Upload {
+    let image = Lent::new(image);
+    let operation: MaskRomOperation<'static> = if check {
+        rockusb::operation::write_area(area, image.bytes())
+    } else {
+        rockusb::operation::write_area_no_crc(area, image.bytes())
+    };
+    Upload { steps: typed(operation), area, _image: image }
+}
+
+pub const UPLOAD_OUTPUT: usize = 4096;
+
+impl Upload {
+    pub fn step(&mut self, tokens: &mut Tokens) -> Answer {
+        let mut out = output(tokens)?;
+        tokens.end()?;
+        if out.len() < UPLOAD_OUTPUT {
+            return Err(Stop::Outside);
+        }
+        let said = match self.steps.step() {
+            Step::Control { header, data } => {
+                out[..data.len()].copy_from_slice(&data);
+                format!("0 4 {header} {}", data.len())
+            }
+            Step::Finished(result) => finished(result),
+            _ => unreachable!("an upload has no bulk transfers"),
+        };
+        Ok(format!("{said} | {}", show(&out)))
+    }
+
+    pub fn run(&mut self, tokens: &mut Tokens, stand: &mut Stand) -> Answer {
+        let budget = tokens.u32()?;
+        tokens.end()?;
+        stand.expect(self.area);
+        let ran = self.steps.run(stand, budget.into());
+        Ok(format!("{} | {} | {}", said(ran.end)?, ran.steps, stand.show()))
+    }
+
+    fn list(&mut self) -> String {
+        let mut transfers = Vec::new();
+        while let Step::Control { header, data } = self.steps.step() {
+            transfers.push(format!(" {header} {}", show(&data)));
+        }
+        format!("0 {}{}", transfers.len(), transfers.concat())
+    }
+}
+
+fn finished(result: Result<String, UsbOperationError>) -> String {
+    match result {
+        Ok(value) => format!("0 3{value}"),
+        Err(e) => operation_refusal(&e),
+    }
+}
+
+pub fn whole_list(tokens: &mut Tokens) -> Answer {
+    Ok(start_upload(tokens)?.list())
+}
+
+/// The Rust has no part-wise upload; demand 3 says that every cut gives the whole upload's list.
+pub fn cut_list(tokens: &mut Tokens) -> Answer {
+    let area = tokens.u16()?;
+    let check = tokens.flag()?;
+    let count = tokens.u16()?;
+    let mut some = false;
+    for _ in 0..count {
+        some |= tokens.len()? > 0;
+    }
+    let image = tokens.data()?;
+    tokens.end()?;
+    if !some {
+        return Err(Stop::Unreadable);
+    }
+    Ok(upload_of(area, check, image).list())
+}

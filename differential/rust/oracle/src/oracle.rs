@@ -1,0 +1,103 @@
+//! One line in, one answer out.
+
+use std::panic::{AssertUnwindSafe, catch_unwind};
+
+use crate::{
+    blocks,
+    operations::{self, Operation, Upload},
+    stand::{self, Stand},
+    text::{Answer, Stop, Tokens},
+};
+
+pub const OUTSIDE: &str = "outside";
+pub const LINE_LIMIT: usize = 4096;
+
+#[derive(Default)]
+pub struct Oracle {
+    operation: Option<Operation>,
+    upload: Option<Upload>,
+    device: Option<Stand>,
+}
+
+impl Oracle {
+    pub fn answer(&mut self, line: &str) -> String {
+        match catch_unwind(AssertUnwindSafe(|| self.call(line))) {
+            Ok(Ok(answer)) => return answer,
+            Ok(Err(Stop::Outside)) => {}
+            Ok(Err(Stop::Unreadable)) => eprintln!("oracle: not of the language: {line}"),
+            Err(_) => {
+                eprintln!("oracle: a panic that was not expected: {line}");
+                *self = Oracle::default();
+            }
+        }
+        OUTSIDE.into()
+    }
+
+    fn call(&mut self, line: &str) -> Answer {
+        if line.len() >= LINE_LIMIT {
+            return Err(Stop::Unreadable);
+        }
+        let mut tokens = Tokens::new(line);
+        let name = tokens.word()?;
+        let tokens = &mut tokens;
+        match name {
+            "dir" | "cod" | "sta" | "rst" | "idx" => blocks::number(name, tokens),
+            "crd" => blocks::read_command(tokens),
+            "cwr" => blocks::write_command(tokens),
+            "cnv" => blocks::convert_command(tokens),
+            "srd" => blocks::read_status(tokens),
+            "swr" => blocks::write_status(tokens),
+            "smp" => blocks::map_status(tokens),
+            "chp" | "fid" | "fin" | "cap" => blocks::reply(name, tokens),
+            "sto" => blocks::storage_reply(tokens),
+            "sec" => blocks::sectors(tokens),
+            "opn" => {
+                self.operation = None;
+                self.operation = Some(operations::start(tokens)?);
+                Ok("0".into())
+            }
+            "stp" => there(&mut self.operation)?.step(tokens),
+            "giv" => there(&mut self.operation)?.give(tokens),
+            "run" => there(&mut self.operation)?.run(tokens, there(&mut self.device)?),
+            "upl" => {
+                self.upload = Some(operations::start_upload(tokens)?);
+                Ok("0".into())
+            }
+            "ust" => there(&mut self.upload)?.step(tokens),
+            "urn" => self.run_upload(tokens),
+            "all" => operations::whole_list(tokens),
+            "cut" => operations::cut_list(tokens),
+            "dvd" => {
+                let (device, answer) = stand::start_default(tokens)?;
+                self.device = Some(device);
+                Ok(answer)
+            }
+            "dvc" => {
+                self.device = None;
+                let (device, answer) = stand::start_configured(tokens)?;
+                self.device = device;
+                Ok(answer)
+            }
+            "bwr" => there(&mut self.device)?.write_bulk(tokens),
+            "brd" => there(&mut self.device)?.read_bulk(tokens),
+            "ctl" => there(&mut self.device)?.write_control(tokens),
+            "are" => there(&mut self.device)?.area(tokens),
+            "lst" => there(&mut self.device)?.last_reset(tokens),
+            _ => Err(Stop::Unreadable),
+        }
+    }
+
+    /// Where the store has no room the steps before were done: device and upload are lost.
+    fn run_upload(&mut self, tokens: &mut Tokens) -> Answer {
+        let answer = there(&mut self.upload)?.run(tokens, there(&mut self.device)?);
+        if answer == Err(Stop::Outside) {
+            self.upload = None;
+            self.device = None;
+        }
+        answer
+    }
+}
+
+fn there<T>(thing: &mut Option<T>) -> Result<&mut T, Stop> {
+    thing.as_mut().ok_or(Stop::Outside)
+}
