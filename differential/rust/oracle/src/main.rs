@@ -1,27 +1,90 @@
 //! Asks the unchanged Rust; see README.md and LANGUAGE.md.
 
 mod blocks;
+mod cases;
+mod compare;
 mod operations;
 mod oracle;
+mod selftest;
 mod stand;
 mod text;
 
-use std::io::{self, BufRead, BufWriter, Write};
+use std::{
+    io::{self, BufRead, BufWriter, Write},
+    process::ExitCode,
+};
 
-fn answer() -> io::Result<()> {
-    let mut oracle = oracle::Oracle::default();
+use cases::{Kind, SAMPLE_LINES, SAMPLE_SEED};
+use oracle::{OUTSIDE, Oracle};
+
+fn answer() -> io::Result<bool> {
+    let mut oracle = Oracle::default();
     let mut out = BufWriter::new(io::stdout().lock());
     for line in io::stdin().lock().lines() {
         writeln!(out, "{}", oracle.answer(&line?))?;
     }
-    out.flush()
+    out.flush()?;
+    Ok(true)
 }
 
-fn main() -> io::Result<()> {
+fn generate(seed: u64, count: usize, kinds: &[Kind]) -> io::Result<bool> {
+    eprintln!("seed {seed}");
+    let mut out = BufWriter::new(io::stdout().lock());
+    let mut lines = 0;
+    for (_, case) in cases::generate(kinds, seed, count) {
+        lines += case.len();
+        for line in case {
+            writeln!(out, "{line}")?;
+        }
+    }
+    out.flush()?;
+    eprintln!("seed {seed}, {lines} lines");
+    Ok(true)
+}
+
+/// Lines that the Rust answers with `outside` are left out: by LANGUAGE.md that changes no other answer.
+fn sample(kinds: &[Kind]) -> io::Result<bool> {
+    let mut oracle = Oracle::default();
+    let mut out = BufWriter::new(io::stdout().lock());
+    for (_, case) in cases::generate(kinds, SAMPLE_SEED, SAMPLE_LINES) {
+        for line in case {
+            if oracle.answer(&line) != OUTSIDE {
+                writeln!(out, "{line}")?;
+            }
+        }
+    }
+    out.flush()?;
+    Ok(true)
+}
+
+fn dispatch(args: &[&str]) -> Option<io::Result<bool>> {
+    Some(match args {
+        ["answer"] => answer(),
+        ["generate", seed, count, kind] => generate(seed.parse().ok()?, count.parse().ok()?, &Kind::named(kind)?),
+        ["sample", kind] => sample(&Kind::named(kind)?),
+        ["compare", program, kind, seed, count] => {
+            compare::compare(program, &Kind::named(kind)?, seed.parse().ok()?, count.parse().ok()?)
+        }
+        ["selftest", page] => selftest::selftest(page),
+        _ => return None,
+    })
+}
+
+fn main() -> ExitCode {
     std::panic::set_hook(Box::new(|_| {}));
     let args: Vec<String> = std::env::args().skip(1).collect();
-    match args[0].as_str() {
-        "answer" => answer(),
-        _ => std::process::exit(2),
+    let args: Vec<&str> = args.iter().map(String::as_str).collect();
+    match dispatch(&args) {
+        Some(Ok(true)) => ExitCode::SUCCESS,
+        Some(Ok(false)) => ExitCode::FAILURE,
+        Some(Err(e)) if e.kind() == io::ErrorKind::BrokenPipe => ExitCode::SUCCESS,
+        Some(Err(e)) => {
+            eprintln!("oracle: {e}");
+            ExitCode::FAILURE
+        }
+        None => {
+            eprintln!("oracle: not a command, kind or number: {}", args.join(" "));
+            ExitCode::from(2)
+        }
     }
 }

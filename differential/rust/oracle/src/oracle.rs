@@ -17,17 +17,28 @@ pub struct Oracle {
     operation: Option<Operation>,
     upload: Option<Upload>,
     device: Option<Stand>,
+    complaints: Vec<String>,
 }
 
 impl Oracle {
+    /// Lines that were not of the language, and panics that were not expected.
+    pub fn complaints(&self) -> &[String] {
+        &self.complaints
+    }
+
+    fn complain(&mut self, complaint: String) {
+        eprintln!("oracle: {complaint}");
+        self.complaints.push(complaint);
+    }
+
     pub fn answer(&mut self, line: &str) -> String {
         match catch_unwind(AssertUnwindSafe(|| self.call(line))) {
             Ok(Ok(answer)) => return answer,
             Ok(Err(Stop::Outside)) => {}
-            Ok(Err(Stop::Unreadable)) => eprintln!("oracle: not of the language: {line}"),
+            Ok(Err(Stop::Unreadable)) => self.complain(format!("not of the language: {line}")),
             Err(_) => {
-                eprintln!("oracle: a panic that was not expected: {line}");
-                *self = Oracle::default();
+                *self = Oracle { complaints: std::mem::take(&mut self.complaints), ..Oracle::default() };
+                self.complain(format!("a panic that was not expected: {line}"));
             }
         }
         OUTSIDE.into()

@@ -1,0 +1,109 @@
+//! Makers of cases: `exhaustive` lists that need no seed, and one `random` case at a time.
+
+pub mod blocks;
+pub mod device;
+pub mod make;
+pub mod operations;
+pub mod replies;
+pub mod runs;
+pub mod status;
+pub mod uploads;
+
+use make::{Case, Rng};
+
+#[derive(Clone, Copy, Debug, PartialEq, Eq)]
+pub enum Kind {
+    Blocks,
+    Status,
+    Replies,
+    Operations,
+    Device,
+    Runs,
+    Uploads,
+    /// Images to 16 MiB; not one of `all`.
+    Large,
+}
+
+pub const ALL: [Kind; 7] = [
+    Kind::Blocks,
+    Kind::Status,
+    Kind::Replies,
+    Kind::Operations,
+    Kind::Device,
+    Kind::Runs,
+    Kind::Uploads,
+];
+
+impl Kind {
+    pub fn name(self) -> &'static str {
+        match self {
+            Kind::Blocks => "blocks",
+            Kind::Status => "status",
+            Kind::Replies => "replies",
+            Kind::Operations => "operations",
+            Kind::Device => "device",
+            Kind::Runs => "runs",
+            Kind::Uploads => "uploads",
+            Kind::Large => "large",
+        }
+    }
+
+    pub fn named(name: &str) -> Option<Vec<Kind>> {
+        if name == "all" {
+            return Some(ALL.to_vec());
+        }
+        let found = ALL.into_iter().chain([Kind::Large]).find(|kind| kind.name() == name)?;
+        Some(vec![found])
+    }
+
+    fn exhaustive(self) -> Vec<Case> {
+        match self {
+            Kind::Blocks => blocks::exhaustive(),
+            Kind::Status => status::exhaustive(),
+            Kind::Replies => replies::exhaustive(),
+            Kind::Operations => operations::exhaustive(),
+            Kind::Device => device::exhaustive(),
+            Kind::Runs => runs::exhaustive(),
+            Kind::Uploads => uploads::exhaustive(),
+            Kind::Large => Vec::new(),
+        }
+    }
+
+    fn random(self, rng: &mut Rng) -> Case {
+        match self {
+            Kind::Blocks => blocks::random(rng),
+            Kind::Status => status::random(rng),
+            Kind::Replies => replies::random(rng),
+            Kind::Operations => operations::random(rng),
+            Kind::Device => device::random(rng),
+            Kind::Runs => runs::random(rng),
+            Kind::Uploads => uploads::random(rng),
+            Kind::Large => uploads::large(rng),
+        }
+    }
+}
+
+/// The exhaustive cases of each kind, then random ones in turn until there are `count` lines of these.
+pub fn generate(kinds: &[Kind], seed: u64, count: usize) -> impl Iterator<Item = (Kind, Case)> {
+    let kinds = kinds.to_vec();
+    let fixed: Vec<(Kind, Case)> =
+        kinds.iter().flat_map(|kind| kind.exhaustive().into_iter().map(|case| (*kind, case))).collect();
+    let mut rng = Rng::new(seed);
+    let mut lines = 0;
+    let mut turn = 0;
+    let random = std::iter::from_fn(move || {
+        if lines >= count {
+            return None;
+        }
+        let kind = kinds[turn % kinds.len()];
+        turn += 1;
+        let case = kind.random(&mut rng);
+        lines += case.len();
+        Some((kind, case))
+    });
+    fixed.into_iter().chain(random)
+}
+
+/// Seed and number of random lines of the sample that stands in the gate.
+pub const SAMPLE_SEED: u64 = 1137;
+pub const SAMPLE_LINES: usize = 400;

@@ -1,0 +1,143 @@
+//! Operations and uploads run against the device with a budget.
+
+use super::{
+    device::{IN, OUT, READ_LBA, WRITE_LBA, configured, control, random_start, small, transaction, write},
+    make::{Block, Case, Rng, any_data},
+    operations::random_op,
+};
+
+const ON_SMALL: [&str; 22] = [
+    "chp 1", "fid 2", "fin 3", "cap 4", "sto 5", "era 6 1 2", "erf 7 3 1", "era 8 4 0", "era 9 4 1", "erf 10 0 5",
+    "rdl 11 1 f 1024 9", "rdl 12 3 f 1024 9", "rdl 13 4 x", "wrl 14 1 r 1024 1", "wrl 15 4 f 512 7", "wrl 16 0 x",
+    "wrl 17 0 s 2048 3", "rst 18 0", "rst 19 4", "swi 20 1 4", "swi 21 0 255", "rdl 4294967295 0 f 2048 1",
+];
+
+pub fn exhaustive() -> Vec<Case> {
+    let mut cases = vec![on_default()];
+    cases.push(one_after_another());
+    cases.extend(ON_SMALL.map(budgets));
+    cases.extend(ON_SMALL.map(after_steps));
+    cases.push(left_open());
+    cases.push(command_sent_by_hand());
+    cases.extend(uploads());
+    cases
+}
+
+fn on_default() -> Case {
+    let mut lines = vec!["dvd 65536".to_string()];
+    for op in [
+        "chp 1", "fid 2", "fin 3", "cap 4", "wrl 5 127 f 512 170", "wrl 6 128 f 512 170", "rdl 7 126 f 1024 0", "era 8 127 1",
+        "erf 9 0 128", "era 10 0 129", "rdl 11 120 f 4096 3", "sto 12", "swi 13 1 1", "rst 14 2",
+    ] {
+        lines.extend([format!("opn {op}"), "run 4".into()]);
+    }
+    for (area, check, len) in [(1137, 1, 0), (1138, 0, 4094), (1137, 1, 4096), (1138, 0, 3)] {
+        lines.extend([format!("upl {area} {check} r {len} 0"), "urn 100".into()]);
+    }
+    lines
+}
+
+fn one_after_another() -> Case {
+    let mut lines = vec![small()];
+    for op in ON_SMALL {
+        lines.extend([format!("opn {op}"), "run 5".into()]);
+    }
+    lines
+}
+
+/// Every budget up to what is needed, then on from where it stopped; twice round.
+fn budgets(op: &str) -> Case {
+    let mut lines = vec![small()];
+    for budget in 0..=4 {
+        lines.extend([format!("opn {op}"), format!("run {budget}"), "run 4".into()]);
+    }
+    lines.extend(["run 0", "run 1", "run 1", "run 1", "run 1"].map(String::from));
+    lines
+}
+
+/// Steps taken by hand that the device never saw, and what comes of going on after its refusals.
+fn after_steps(op: &str) -> Case {
+    let mut lines = vec![small()];
+    for steps in 1..=3 {
+        lines.push(format!("opn {op}"));
+        lines.extend((0..steps).map(|_| "stp 31 0".to_string()));
+        lines.extend(["run 9", "run 9", "run 9"].map(String::from));
+    }
+    lines
+}
+
+/// A device in the middle of a transaction refuses the command and is free again.
+fn left_open() -> Case {
+    let mut lines = vec![small()];
+    let open = [Block::of(READ_LBA, IN, 512), Block::of(WRITE_LBA, OUT, 512), Block::of(0xff, OUT, 0)];
+    for block in open {
+        for op in ["cap 4", "wrl 14 1 r 512 1"] {
+            lines.extend([write(&block), format!("opn {op}"), "run 9".into(), format!("opn {op}"), "run 9".into()]);
+        }
+    }
+    lines
+}
+
+fn command_sent_by_hand() -> Case {
+    let mut lines = vec![small()];
+    for tag in [77, 78] {
+        lines.push("opn rdl 77 2 f 512 0".into());
+        lines.push("stp 31 0".into());
+        lines.push(write(&Block { tag, address: 2, count: 1, ..Block::of(READ_LBA, IN, 512) }));
+        lines.push("run 9".into());
+    }
+    lines
+}
+
+fn uploads() -> Vec<Case> {
+    let mut cases = Vec::new();
+    for len in [0, 1, 4093, 4094, 4095, 4096, 8190, 8191, 8192] {
+        let needed = len / 4096 + 4;
+        let mut lines = vec![configured(200_000, "s 512 1")];
+        for budget in 0..needed {
+            lines.extend([format!("upl {} 1 r {len} 7", 10 + budget), format!("urn {budget}"), "urn 9".into()]);
+        }
+        lines.extend(["urn 0", "urn 1", "urn 2"].map(String::from));
+        lines.extend([format!("upl 10 0 f {len} 1"), "urn 1".into(), "ust 4096 0".into(), "urn 9".into()]);
+        cases.push(lines);
+    }
+    let mut full = vec![configured(32_776, "x"), "upl 5 1 f 4094 1".into(), "urn 9".into()];
+    full.extend(["upl 5 1 x".into(), "urn 9".into(), "upl 6 1 x01".into(), "urn 9".into()]);
+    cases.push(full);
+    cases
+}
+
+pub fn random(rng: &mut Rng) -> Case {
+    let (start, sectors) = random_start(rng);
+    let mut lines = vec![start];
+    let until = 20 + rng.below(60);
+    while lines.len() < until {
+        match rng.below(8) {
+            0 => random_upload(rng, &mut lines),
+            1 => lines.extend(transaction(rng, sectors).into_iter().take(1)),
+            2 => lines.push(control(rng)),
+            _ => random_run(rng, sectors, &mut lines),
+        }
+    }
+    lines
+}
+
+fn random_run(rng: &mut Rng, sectors: usize, lines: &mut Vec<String>) {
+    lines.push(random_op(rng, sectors).start);
+    if rng.one_in(8) {
+        lines.push(format!("stp {} {}", 31 + rng.below(3), rng.byte()));
+    }
+    while rng.one_in(4) {
+        lines.push(format!("run {}", rng.below(4)));
+    }
+    lines.push(format!("run {}", 4 + rng.below(3)));
+}
+
+fn random_upload(rng: &mut Rng, lines: &mut Vec<String>) {
+    let len = rng.pick(&[0, 1, 2, 20, 50, 300, 4093, 4094, 4095, 4096, 8190, 8191]);
+    lines.push(format!("upl {} {} {}", rng.below(12), rng.below(2), any_data(rng, len)));
+    while rng.one_in(3) {
+        lines.push(format!("urn {}", rng.below(3)));
+    }
+    lines.push(format!("urn {}", 4 + rng.below(3)));
+}

@@ -1,0 +1,190 @@
+//! Shows that each part works, and prints the faults of the Rust that document 01 refuses.
+
+use std::{fs, io};
+
+use rockusb::{
+    operation::{OperationSteps, UsbStep, read_lba, write_lba},
+    protocol::CommandBlock,
+};
+
+use crate::{
+    blocks::asked,
+    cases::{ALL, Kind, SAMPLE_LINES, SAMPLE_SEED, generate, make::Case},
+    oracle::{LINE_LIMIT, OUTSIDE, Oracle},
+};
+
+/// Whether everything held.
+pub fn selftest(page: &str) -> io::Result<bool> {
+    let parts = [
+        ("examples of LANGUAGE.md", examples(&fs::read_to_string(page)?)),
+        ("proved examples of document 01", documented()),
+        ("one tag is drawn by each constructor", draws()),
+        ("generated cases are of the language", generated()),
+        ("samples hold no `outside` and answer as in their full cases", samples()),
+        ("a store that is full loses device and upload", lost()),
+        ("faults of the Rust", faults()),
+    ];
+    let mut held = true;
+    for (name, bad) in parts {
+        println!("{}: {name}", if bad.is_empty() { "ok" } else { "FAILED" });
+        bad.iter().for_each(|line| println!("  {line}"));
+        held &= bad.is_empty();
+    }
+    Ok(held)
+}
+
+fn check(bad: &mut Vec<String>, oracle: &mut Oracle, line: &str, wanted: &str) {
+    let got = oracle.answer(line);
+    if got != wanted {
+        bad.push(format!("{line}: wanted {wanted}, got {got}"));
+    }
+}
+
+fn examples(page: &str) -> Vec<String> {
+    let mut bad = Vec::new();
+    let mut oracle = Oracle::default();
+    let mut lines = page.lines();
+    let mut count = 0;
+    while let Some(line) = lines.next() {
+        if let Some(call) = line.strip_prefix("> ") {
+            count += 1;
+            check(&mut bad, &mut oracle, call, lines.next().unwrap_or_default());
+        }
+    }
+    if count < 40 {
+        bad.push(format!("only {count} examples"));
+    }
+    bad
+}
+
+/// P1, P3 to P14; P2 by an image of `123456789`.
+fn documented() -> Vec<String> {
+    let mut bad = Vec::new();
+    let mut oracle = Oracle::default();
+    for (line, wanted) in [
+        (
+            "cwr 31 0 rdl 16909060 64 2",
+            "0 31 | 31:55534243010203040004000080000a14000000004000000200000000000000",
+        ),
+        ("all 1 1 x313233343536373839", "0 1 64 12 0 1 11:31323334353637383929b1"),
+        ("all 1 1 x", "0 1 64 12 0 1 2:ffff"),
+        ("all 1 0 x", "0 1 64 12 0 1 2:0000"),
+        ("all 1 0 f 4093 0", "0 1 64 12 0 1 4095#4c15e8c3"),
+        ("all 1 0 f 4094 0", "0 2 64 12 0 1 4096#8af9dada 64 12 0 1 1:00"),
+        ("all 1 0 f 4095 0", "0 2 64 12 0 1 4096#8af9dada 64 12 0 1 2:0000"),
+        ("all 1 0 f 4096 0", "0 2 64 12 0 1 4096#8af9dada 64 12 0 1 2:0000"),
+        ("sto x02000000", "0 1 1"),
+        ("sto x00000080", "0 0 31"),
+        ("sto x03000000", "14"),
+        ("sto x00000000", "14"),
+        ("dvd 65536", "0 | 65536#38d75dbe | 0 | 0"),
+        ("opn fin 1", "0"),
+        ("run 4", "0 11:8000000040000000000000 | 4 | 0: | 65536#38d75dbe | 0 | 0"),
+        ("opn era 1 128 0", "0"),
+        ("run 3", "0 | 3 | 0: | 65536#38d75dbe | 0 | 0"),
+        ("opn era 1 128 1", "0"),
+        ("run 3", "57 | 1 | 0: | 65536#38d75dbe | 0 | 0"),
+    ] {
+        check(&mut bad, &mut oracle, line, wanted);
+    }
+    bad
+}
+
+fn draws() -> Vec<String> {
+    let mut bad = Vec::new();
+    let mut oracle = Oracle::default();
+    for op in super::cases::operations::every_operation() {
+        let before = fastrand::draws();
+        oracle.answer(&op.start);
+        if fastrand::draws() != before + 1 {
+            bad.push(op.start);
+        }
+    }
+    bad
+}
+
+fn cases_of(kind: Kind) -> Vec<Case> {
+    generate(&[kind], SAMPLE_SEED, SAMPLE_LINES).map(|(_, case)| case).collect()
+}
+
+fn generated() -> Vec<String> {
+    let mut bad = Vec::new();
+    for kind in ALL {
+        let mut oracle = Oracle::default();
+        for line in cases_of(kind).concat() {
+            if line.len() >= LINE_LIMIT {
+                bad.push(format!("too long: {line}"));
+            }
+            oracle.answer(&line);
+        }
+        bad.extend(oracle.complaints().iter().cloned());
+    }
+    bad
+}
+
+fn samples() -> Vec<String> {
+    let mut bad = Vec::new();
+    for kind in ALL {
+        let (mut full, mut kept) = (Oracle::default(), Oracle::default());
+        for line in cases_of(kind).concat() {
+            let answer = full.answer(&line);
+            if answer != OUTSIDE {
+                check(&mut bad, &mut kept, &line, &answer);
+            }
+        }
+    }
+    bad
+}
+
+fn lost() -> Vec<String> {
+    let mut bad = Vec::new();
+    let mut oracle = Oracle::default();
+    for (line, wanted) in [
+        ("dvc 32768 1 f 16 0 f 5 0 f 8 0 f 5 0 x", "0 | 0: | 0 | 0"),
+        ("upl 5 1 r 4096 0", "0"),
+        ("urn 9", OUTSIDE),
+        ("lst", OUTSIDE),
+        ("ust 4096 0", OUTSIDE),
+        ("dvd 0", "0 | 65536#38d75dbe | 0 | 0"),
+        ("lst", "0 0"),
+    ] {
+        check(&mut bad, &mut oracle, line, wanted);
+    }
+    bad
+}
+
+fn faults() -> Vec<String> {
+    let mut bad = Vec::new();
+    for (len, wanted) in [(33_553_920, 65_535), (33_554_432, 0), (33_554_944, 1)] {
+        let mut data = vec![0; len];
+        let written = sent_count(write_lba(0, &data));
+        let read = sent_count(read_lba(0, &mut data));
+        println!("  {len} bytes: write_lba sends count {}, transfer length {}", written.0, written.1);
+        println!("  {len} bytes: read_lba sends count {}, transfer length {}", read.0, read.1);
+        if written.0 != wanted || read.0 != wanted {
+            bad.push(format!("{len}: count {wanted} was wanted"));
+        }
+    }
+    for len in [1, 511, 513] {
+        let mut data = vec![0; len];
+        let write = asked(|| drop(write_lba(0, &data))).is_err();
+        let read = asked(|| drop(read_lba(0, &mut data))).is_err();
+        println!("  {len} bytes: write_lba {}, read_lba {}", panics(write), panics(read));
+        if !write || !read {
+            bad.push(format!("{len}: a panic was wanted"));
+        }
+    }
+    bad
+}
+
+fn panics(it_did: bool) -> &'static str {
+    if it_did { "panics" } else { "goes on" }
+}
+
+fn sent_count<T>(mut operation: impl OperationSteps<T>) -> (u16, u32) {
+    let UsbStep::WriteBulk { data } = operation.step() else {
+        unreachable!("the first step of an operation")
+    };
+    let block = CommandBlock::from_bytes(data).expect("the operation's own command");
+    (block.cd_length(), block.transfer_length())
+}
