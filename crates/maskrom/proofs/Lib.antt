@@ -1,0 +1,3 @@
+-- `Lists` has laws on lists, `Cases` one law for each branch of a definition.
+pub mod Lists
+pub mod Cases

@@ -1,0 +1,31 @@
+-- The test is the rule of 25; beside it stands a fresh record of length 0, else one of the length of the image.
+-- Assumes nothing.
+use borrow.Author.Needs.{needs}
+use native.Mathlib.Omega.{arith}
+use borrow.Author.Tests.{lt-ltb, le-ltb}
+use mathlib.Core.Path.{_≡_, refl}
+use denote.Ref.{now}
+use lib.ListN.{length}
+use Rattle.wire.specs.Rules.{unless}
+use Rattle.maskrom.specs.Upload.{longest}
+use Rattle.maskrom.specs.Does.{said, after}
+use Rattle.maskrom.specs.Answers.{startTold}
+use Rattle.maskrom.specs.Whole.{startStep, StartMeets}
+use Rattle.maskrom.proofs.start_whole.Statement.{statement}
+use Rattle.maskrom.proofs.start_whole.Tie as tie
+
+returns : tie.Need-returns
+unfolding startStep unless said after startTold
+returns c =
+    let n = length (now (c .before .before .before .args .image)) in
+    record { tells = rw (lt-ltb longest n (c .before .if1 .taken)); next = rw (lt-ltb longest n (c .before .if1 .taken)) (c .new-whole .ensures) }
+
+returns-2 : tie.Need-returns-2
+unfolding startStep unless said after startTold
+returns-2 c =
+    let n = length (now (c .before .before .before .args .image)) in
+    record { tells = rw (le-ltb longest n (c .before .if1 .left)); next = rw (le-ltb longest n (c .before .if1 .left)) (c .new-whole2 .ensures) }
+
+pub start-whole-spec : {M : Type 1} → statement M
+start-whole-spec =
+    tie.close (tie.spec (λ c κs. search needs) returns (λ c. search needs) (λ c κs. search needs) returns-2)

@@ -1,0 +1,56 @@
+-- The document's number and values of each answer.
+-- Assumes nothing.
+use Prim.Native.Nat.{ℕ}
+use mathlib.Core.List.{List, []}
+use Rattle.wire.specs.Told.{Told, given, refused}
+use Rattle.maskrom.specs.declared.Control.{Control}
+use Rattle.maskrom.specs.declared.PartStep.{PartStep}
+use Rattle.maskrom.specs.declared.PartStep.the-variants as part
+use Rattle.maskrom.specs.declared.UploadStep.{UploadStep}
+use Rattle.maskrom.specs.declared.UploadStep.the-variants as upload
+use Rattle.maskrom.specs.declared.UploadStart.{UploadStart}
+use Rattle.maskrom.specs.declared.UploadStart.the-variants as start
+
+-- output too short, image too long, already closed, lent data differs
+abbrev pub tooShort : ℕ
+tooShort = 20
+
+abbrev pub tooLong : ℕ
+tooLong = 25
+
+abbrev pub closedAlready : ℕ
+closedAlready = 26
+
+abbrev pub differs : ℕ
+differs = 27
+
+-- "type 0x40, request 0xc, value 0, index the area"
+abbrev pub control : ℕ → ℕ → Control
+control area n = record { «request_type» = 0x40; request = 0xc; value = 0; index = area; size = n }
+
+-- what a part that is not refused is told: how many bytes were taken, and the transfer where they filled the block
+pub data Handed : Type 0 where
+  took : ℕ → Handed
+  filled : ℕ → Control → Handed
+
+-- what a closing or whole-upload step that is not refused asks for
+pub data Asks : Type 0 where
+  writes : Control → Asks
+  finish : Asks
+
+unfoldable pub partTold : PartStep → Told Handed
+partTold (part.Taken n) = given (took n)
+partTold (part.WriteControl n c) = given (filled n c)
+partTold part.OutputTooShort = refused tooShort []
+partTold part.AlreadyClosed = refused closedAlready []
+partTold part.ImageTooLong = refused tooLong []
+
+unfoldable pub stepTold : UploadStep → Told Asks
+stepTold (upload.WriteControl c) = given (writes c)
+stepTold upload.Finished = given finish
+stepTold upload.OutputTooShort = refused tooShort []
+stepTold upload.ImageDiffers = refused differs []
+
+unfoldable pub startTold : UploadStart → Told Unit
+startTold start.Started = given tt
+startTold start.ImageTooLong = refused tooLong []

@@ -1,0 +1,116 @@
+-- The part-wise upload: parts, then closing steps.
+-- Assumes nothing.
+use Prim.Native.Nat.{ℕ, _+_, _-_, _%_}
+use mathlib.Core.Bool.{Bool, true, false}
+use mathlib.Core.List.{List, [], _∷_, _++_}
+use lib.ListN.{length, take, drop, replicate}
+use lib.Dec.{eqb, ltb}
+use Rattle.wire.specs.Told.{Told, given}
+use Rattle.wire.specs.Rules.{pick, rule, unless}
+use Rattle.crc.specs.Check.{start}
+use Rattle.maskrom.specs.declared.MaskRomSteps.{MaskRomSteps}
+use Rattle.maskrom.specs.declared.MaskRomSteps.the-variants.{Writing, Check, Dummy, Done}
+use Rattle.maskrom.specs.declared.MaskRomOperation.{MaskRomOperation}
+use Rattle.maskrom.specs.declared.PartStep.{PartStep}
+use Rattle.maskrom.specs.declared.PartStepped.{PartStepped}
+use Rattle.maskrom.specs.declared.UploadStep.{UploadStep}
+use Rattle.maskrom.specs.declared.CloseStepped.{CloseStepped}
+use Rattle.maskrom.specs.Upload.{blockSize, longest}
+use Rattle.maskrom.specs.Moves.{Moves, register, movesAt}
+use Rattle.maskrom.specs.Does.{Does, does}
+use Rattle.maskrom.specs.Answers.{tooShort, tooLong, closedAlready, control, Handed, took, filled, Asks, writes, finish}
+
+abbrev pub fresh : ℕ → Bool → MaskRomOperation
+fresh area checked = record {
+  area = area;
+  checked = checked;
+  taken = 0;
+  crc = start;
+  steps = Writing;
+  block = replicate blockSize 0;
+}
+
+-- how many bytes of the block wait for their transfer, and which
+abbrev pub waiting : MaskRomOperation → ℕ
+waiting m = m .taken % blockSize
+
+abbrev pub held : MaskRomOperation → List ℕ
+held m = take (waiting m) (m .block)
+
+-- "a part after closing began"
+unfoldable pub closed : MaskRomSteps → Bool
+closed Writing = false
+closed Check = true
+closed Dummy = true
+closed Done = true
+
+-- the record once `ys` are taken: they stand behind the bytes that waited
+abbrev pub holding : MaskRomOperation → List ℕ → MaskRomOperation
+holding m ys = record {
+  area = m .area;
+  checked = m .checked;
+  taken = m .taken + length ys;
+  crc = register (m .checked) (m .crc) ys;
+  steps = m .steps;
+  block = held m ++ (ys ++ drop (waiting m + length ys) (m .block));
+}
+
+abbrev pub withBlock : MaskRomOperation → ℕ → ℕ → List ℕ → MaskRomOperation
+withBlock m taken crc block = record {
+  area = m .area;
+  checked = m .checked;
+  taken = taken;
+  crc = crc;
+  steps = m .steps;
+  block = block;
+}
+
+abbrev pub parted : PartStep → MaskRomOperation → PartStepped
+parted step m = record { step = step; next = m }
+
+-- "says how many it took, and puts a full transfer in the first 4,096 output bytes"
+unfoldable pub takes : MaskRomOperation → List ℕ → Does Handed MaskRomOperation
+takes m ys =
+    pick (eqb (waiting m + length ys) blockSize)
+    (does (filled (length ys) (control (m .area) blockSize)) (held m ++ ys) (holding m ys))
+    (does (took (length ys)) [] (holding m ys))
+
+-- "each call takes bytes until the block is full"; "Parts: 20, 26, 25"
+unfoldable pub partStep : MaskRomOperation → List ℕ → ℕ → Told (Does Handed MaskRomOperation)
+partStep m part room =
+    unless
+    (rule (ltb room blockSize) tooShort []
+    ∷ rule (closed (m .steps)) closedAlready []
+    ∷ rule (ltb longest (m .taken + length part)) tooLong []
+    ∷ [])
+    (given (takes m (take (blockSize - waiting m) part)))
+
+-- a control write of n bytes, or the finish
+unfoldable pub asks : MaskRomSteps → ℕ → ℕ → Asks
+asks Writing area n = writes (control area n)
+asks Check area n = writes (control area n)
+asks Dummy area n = writes (control area n)
+asks Done area n = finish
+
+abbrev pub withMoved : MaskRomOperation → ℕ → MaskRomSteps → MaskRomOperation
+withMoved m crc steps = record {
+  area = m .area;
+  checked = m .checked;
+  taken = m .taken;
+  crc = crc;
+  steps = steps;
+  block = m .block;
+}
+
+abbrev pub closedWith : UploadStep → MaskRomOperation → CloseStepped
+closedWith step m = record { step = step; next = m }
+
+unfoldable pub closes : MaskRomOperation → Moves → Does Asks MaskRomOperation
+closes m to = does (asks (m .steps) (m .area) (length (to .bytes))) (to .bytes) (withMoved m (to .crc) (to .steps))
+
+-- "The first closing step shuts the image"; "closing 20"
+unfoldable pub closeStep : MaskRomOperation → ℕ → Told (Does Asks MaskRomOperation)
+closeStep m room =
+    unless
+    (rule (ltb room blockSize) tooShort [] ∷ [])
+    (given (closes m (movesAt (m .steps) (m .checked) (m .crc) (held m))))

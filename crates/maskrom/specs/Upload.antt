@@ -1,0 +1,46 @@
+-- The bytes of an upload, and how they are cut into transfers.
+-- Assumes nothing.
+use Prim.Native.Nat.{ℕ, zero, suc, _+_, _/_, _%_}
+use mathlib.Core.Bool.{Bool}
+use mathlib.Core.List.{List, [], _∷_, _++_}
+use lib.ListN.{length, take, drop}
+use lib.Dec.{eqb}
+use Rattle.wire.specs.Rules.{pick}
+use Rattle.wire.specs.Bytes.{highFirst}
+use Rattle.crc.specs.Check.{check}
+
+-- the most that one transfer holds
+abbrev pub blockSize : ℕ
+blockSize = 4096
+
+-- the longest image
+abbrev pub longest : ℕ
+longest = 4294967295
+
+-- "a zero if its length mod 4,096 is 4,095"
+unfoldable pub pad : ℕ → List ℕ
+pad n = pick (eqb (n % blockSize) 4095) (0 ∷ []) []
+
+-- "the check .., high byte first, or 00 00"
+unfoldable pub checkBytes : Bool → ℕ → List ℕ
+checkBytes checked crc = pick checked (highFirst 2 crc) (0 ∷ 0 ∷ [])
+
+-- "a zero if the length mod 4,096 is 4,094"
+unfoldable pub lastZero : ℕ → List ℕ
+lastZero n = pick (eqb (n % blockSize) 4094) (0 ∷ []) []
+
+-- "the image; a zero if ..; the check of all that ..; a zero if .."
+unfoldable pub uploadBytes : Bool → List ℕ → List ℕ
+uploadBytes checked image =
+    let n = length image in
+    let body = image ++ pad n in
+    body ++ (checkBytes checked (check body) ++ lastZero n)
+
+-- k transfers, each as long as it can be
+unfoldable pub pieces : ℕ → List ℕ → List (List ℕ)
+pieces zero bs = []
+pieces (suc k) bs = take blockSize bs ∷ pieces k (drop blockSize bs)
+
+-- "With T bytes in all there are floor(T/4,096)+1 transfers"
+unfoldable pub cut : List ℕ → List (List ℕ)
+cut bs = pieces (length bs / blockSize + 1) bs

@@ -1,0 +1,77 @@
+-- The whole upload: the image is lent at every step, and the record holds none of it.
+-- Assumes nothing.
+use Prim.Native.Nat.{ℕ, _+_}
+use mathlib.Core.Bool.{Bool, not}
+use mathlib.Core.Path.{_≡_}
+use mathlib.Core.List.{List, [], _∷_}
+use lib.ListN.{length, take, drop}
+use lib.Dec.{eqb, ltb}
+use Rattle.wire.specs.Told.{Told, given}
+use Rattle.wire.specs.Rules.{rule, unless}
+use Rattle.crc.specs.Check.{start}
+use Rattle.maskrom.specs.declared.MaskRomSteps.{MaskRomSteps}
+use Rattle.maskrom.specs.declared.MaskRomSteps.the-variants.{Writing, Check, Dummy, Done}
+use Rattle.maskrom.specs.declared.WholeUpload.{WholeUpload}
+use Rattle.maskrom.specs.declared.WholeStart.{WholeStart}
+use Rattle.maskrom.specs.declared.UploadStep.{UploadStep}
+use Rattle.maskrom.specs.declared.WholeStepped.{WholeStepped}
+use Rattle.maskrom.specs.Upload.{blockSize, longest}
+use Rattle.maskrom.specs.Moves.{Moves, register, movesAt}
+use Rattle.maskrom.specs.Does.{Does, does, said, after}
+use Rattle.maskrom.specs.Answers.{tooShort, tooLong, differs, startTold, Asks}
+use Rattle.maskrom.specs.PartWise.{asks}
+
+abbrev pub freshWhole : ℕ → Bool → ℕ → WholeUpload
+freshWhole area checked n = record {
+  area = area;
+  checked = checked;
+  length = n;
+  taken = 0;
+  crc = start;
+  steps = Writing;
+}
+
+-- "Whole upload: 25 at the start"
+unfoldable pub startStep : ℕ → Bool → List ℕ → Told (Does Unit WholeUpload)
+startStep area checked image =
+    unless (rule (ltb longest (length image)) tooLong [] ∷ []) (given (does tt [] (freshWhole area checked (length image))))
+
+-- beside a refusal stands a fresh record of length 0
+pub record StartMeets (r : WholeStart) (area : ℕ) (checked : Bool) (image : List ℕ) : Type 0 where
+  pub tells : startTold (r .start) ≡ said (startStep area checked image)
+  pub next : r .upload ≡ after (freshWhole area checked 0) (startStep area checked image)
+
+-- how much of the image goes with a step: a block at most while it is written, and nothing after
+unfoldable pub most : MaskRomSteps → ℕ
+most Writing = blockSize
+most Check = 0
+most Dummy = 0
+most Done = 0
+
+abbrev pub chunk : WholeUpload → List ℕ → List ℕ
+chunk u image = take (most (u .steps)) (drop (u .taken) image)
+
+abbrev pub sentOn : WholeUpload → ℕ → ℕ → MaskRomSteps → WholeUpload
+sentOn u n crc steps = record {
+  area = u .area;
+  checked = u .checked;
+  length = u .length;
+  taken = u .taken + n;
+  crc = crc;
+  steps = steps;
+}
+
+abbrev pub steppedWith : UploadStep → WholeUpload → WholeStepped
+steppedWith step u = record { step = step; next = u }
+
+unfoldable pub sendsOn : WholeUpload → List ℕ → Does Asks WholeUpload
+sendsOn u w =
+    let to = movesAt (u .steps) (u .checked) (register (u .checked) (u .crc) w) w in
+    does (asks (u .steps) (u .area) (length (to .bytes))) (to .bytes) (sentOn u (length w) (to .crc) (to .steps))
+
+-- "Each step, finish included: .. whole 20, then 27"
+unfoldable pub wholeStep : WholeUpload → List ℕ → ℕ → Told (Does Asks WholeUpload)
+wholeStep u image room =
+    unless
+    (rule (ltb room blockSize) tooShort [] ∷ rule (not (eqb (length image) (u .length))) differs [] ∷ [])
+    (given (sendsOn u (chunk u image)))

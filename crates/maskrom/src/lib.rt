@@ -1,0 +1,499 @@
+// An image is uploaded in control writes of 4,096 bytes and a shorter last one, handed over part by part (`MaskRomOperation`) or lent whole at
+// every step (`write_area`, `WholeUpload`).
+ghost use mathlib.Core.Path.{_≡_};
+ghost use mathlib.Core.Bool.{true, false};
+ghost use mathlib.Core.List.{[], _∷_, _++_};
+ghost use Prim.Native.Nat.{_+_, _≤_, min};
+ghost use lib.ListN.{length, take};
+ghost use Rattle.wire.specs.Told.{given};
+ghost use Rattle.wire.specs.Bytes.{front, highFirst};
+ghost use Rattle.maskrom.specs.Upload.{checkBytes};
+ghost use Rattle.maskrom.specs.Moves.{register, writing, movesAt, SendMeets};
+ghost use Rattle.maskrom.specs.Does.{Meets};
+ghost use Rattle.maskrom.specs.Answers.{control, partTold, stepTold};
+ghost use Rattle.maskrom.specs.PartWise.{fresh, waiting, withBlock, holding, parted, partStep, asks, withMoved, closedWith, closeStep};
+ghost use Rattle.maskrom.specs.Whole.{freshWhole, StartMeets, most, sentOn, steppedWith, sendsOn, wholeStep};
+
+const BLOCK: usize = 4096;
+
+const LONGEST: usize = 4_294_967_295;
+
+const CRC_START: u16 = 0xFFFF;
+
+// A control write with the first `size` bytes of the output.
+pub struct Control {
+    pub request_type: u8,
+    pub request: u8,
+    pub value: u16,
+    pub index: u16,
+    pub size: usize,
+}
+
+// Where an upload stands: the image goes on, its check is left, the last zero is left, nothing is left.
+pub enum MaskRomSteps {
+    Writing,
+    Check,
+    Dummy,
+    Done,
+}
+
+pub enum PartStep {
+    // That many bytes were taken.
+    Taken(usize),
+    // That many were taken, and the block is full.
+    WriteControl(usize, Control),
+    OutputTooShort,
+    AlreadyClosed,
+    ImageTooLong,
+}
+
+pub enum UploadStep {
+    WriteControl(Control),
+    Finished,
+    OutputTooShort,
+    ImageDiffers,
+}
+
+// A part-wise upload. The first `taken % 4096` bytes of the block wait for their transfer; the check covers all that was taken.
+pub struct MaskRomOperation {
+    pub area: u16,
+    pub checked: bool,
+    pub taken: u32,
+    pub crc: u16,
+    pub steps: MaskRomSteps,
+    pub block: [u8; 4096],
+}
+
+pub struct PartStepped {
+    pub step: PartStep,
+    pub next: MaskRomOperation,
+}
+
+pub struct CloseStepped {
+    pub step: UploadStep,
+    pub next: MaskRomOperation,
+}
+
+// A whole upload, of an image that is lent at every step.
+pub struct WholeUpload {
+    pub area: u16,
+    pub checked: bool,
+    pub length: u32,
+    pub taken: u32,
+    pub crc: u16,
+    pub steps: MaskRomSteps,
+}
+
+pub enum UploadStart {
+    Started,
+    ImageTooLong,
+}
+
+pub struct WholeStart {
+    pub start: UploadStart,
+    pub upload: WholeUpload,
+}
+
+pub struct WholeStepped {
+    pub step: UploadStep,
+    pub next: WholeUpload,
+}
+
+// What was put into the output, the check behind it, and where the upload then stands.
+pub struct Moved {
+    pub size: usize,
+    pub crc: u16,
+    pub steps: MaskRomSteps,
+}
+
+fn least(a: usize, b: usize) -> usize
+    ensures { λ r. ⌜ r ≡ min a b ⌝ }
+{
+    if a < b { a } else { b }
+}
+
+fn control_of(area: u16, size: usize) -> Control
+    ensures { λ r. ⌜ r ≡ control area size ⌝ }
+{
+    Control {
+        request_type: 0x40,
+        request: 0xc,
+        value: 0,
+        index: area,
+        size,
+    }
+}
+
+// Without a check nothing is worked out.
+fn covered(checked: bool, crc: u16, bytes: &[u8]) -> u16
+    ensures { λ r. ⌜ r ≡ register checked crc (now (bytes .entry)) ⌝ }
+{
+    if checked {
+        crc::update(crc, bytes)
+    } else {
+        crc
+    }
+}
+
+fn with_zero(block: [u8; 4096], n: usize) -> [u8; 4096]
+    requires { ⌜ n + 1 ≤ 4096 ⌝ }
+    ensures { λ r. ⌜ take (n + 1) r ≡ take n block ++ (0 ∷ []) ⌝ }
+{
+    let mut b = block;
+    b[n] = 0;
+    b
+}
+
+// The two bytes of the check, as a number.
+fn shown(checked: bool, crc: u16) -> u16
+    ensures { λ r. ⌜ highFirst 2 r ≡ checkBytes checked crc ⌝ }
+{
+    if checked { crc } else { 0 }
+}
+
+fn with_check(block: [u8; 4096], n: usize, check: u16) -> [u8; 4096]
+    requires { ⌜ n + 2 ≤ 4096 ⌝ }
+    ensures { λ r. ⌜ take (n + 2) r ≡ take n block ++ highFirst 2 check ⌝ }
+{
+    let mut b = block;
+    b[n] = (check / 256) as u8;
+    b[n + 1] = (check % 256) as u8;
+    b
+}
+
+// The first n bytes of the block go to the front of the output.
+fn put(block: [u8; 4096], n: usize, out: &mut [u8]) -> usize
+    requires { ⌜ (n ≤ 4096) × (4096 ≤ length (now out)) ⌝ }
+    ensures { λ r. ⌜ (r ≡ length (take n block)) × (now (out .exit) ≡ front (take n block) (now (out .entry))) ⌝ }
+{
+    bytes::copy(&block[..n], out)
+}
+
+// The next n bytes of the image stand at the front of the block, and the check covers them.
+fn write_on(checked: bool, crc: u16, block: [u8; 4096], n: usize, out: &mut [u8]) -> Moved
+    requires { ⌜ (n ≤ 4096) × (4096 ≤ length (now out)) ⌝ }
+    ensures { λ r. ⌜ SendMeets r (now (out .entry)) (now (out .exit)) (writing checked crc (take n block)) ⌝ }
+{
+    if n == 4096 {
+        let size = put(block, n, out);
+        return Moved {
+            size,
+            crc,
+            steps: MaskRomSteps::Writing,
+        };
+    }
+    if n == 4095 {
+        let padded = with_zero(block, n);
+        let size = put(padded, n + 1, out);
+        let zero = [0u8; 1];
+        return Moved {
+            size,
+            crc: covered(checked, crc, &zero),
+            steps: MaskRomSteps::Check,
+        };
+    }
+    let last = with_check(block, n, shown(checked, crc));
+    let size = put(last, n + 2, out);
+    if n == 4094 {
+        return Moved {
+            size,
+            crc,
+            steps: MaskRomSteps::Dummy,
+        };
+    }
+    Moved {
+        size,
+        crc,
+        steps: MaskRomSteps::Done,
+    }
+}
+
+// One step of an image of which no more will come.
+fn send(
+    steps: MaskRomSteps,
+    checked: bool,
+    crc: u16,
+    block: [u8; 4096],
+    n: usize,
+    out: &mut [u8],
+) -> Moved
+    requires { ⌜ (n ≤ 4096) × (4096 ≤ length (now out)) ⌝ }
+    ensures { λ r. ⌜ SendMeets r (now (out .entry)) (now (out .exit)) (movesAt steps checked crc (take n block)) ⌝ }
+{
+    match steps {
+        MaskRomSteps::Writing => write_on(checked, crc, block, n, out),
+        MaskRomSteps::Check => {
+            let last = with_check(block, 0, shown(checked, crc));
+            let size = put(last, 2, out);
+            Moved {
+                size,
+                crc,
+                steps: MaskRomSteps::Done,
+            }
+        }
+        MaskRomSteps::Dummy => {
+            let zero = with_zero(block, 0);
+            let size = put(zero, 1, out);
+            Moved {
+                size,
+                crc,
+                steps: MaskRomSteps::Done,
+            }
+        }
+        MaskRomSteps::Done => Moved {
+            size: 0,
+            crc,
+            steps: MaskRomSteps::Done,
+        },
+    }
+}
+
+// What is asked of the transport: a control write, or nothing any more.
+fn asked(steps: MaskRomSteps, area: u16, size: usize) -> UploadStep
+    ensures { λ r. ⌜ stepTold r ≡ given (asks steps area size) ⌝ }
+{
+    match steps {
+        MaskRomSteps::Done => UploadStep::Finished,
+        _ => UploadStep::WriteControl(control_of(area, size)),
+    }
+}
+
+fn new_operation(area: u16, checked: bool) -> MaskRomOperation
+    ensures { λ r. ⌜ r ≡ fresh area checked ⌝ }
+{
+    let block = [0u8; 4096];
+    MaskRomOperation {
+        area,
+        checked,
+        taken: 0,
+        crc: CRC_START,
+        steps: MaskRomSteps::Writing,
+        block,
+    }
+}
+
+impl MaskRomOperation {
+    pub fn new(area: u16) -> MaskRomOperation
+        ensures { λ r. ⌜ r ≡ fresh area true ⌝ }
+    {
+        new_operation(area, true)
+    }
+
+    pub fn new_no_crc(area: u16) -> MaskRomOperation
+        ensures { λ r. ⌜ r ≡ fresh area false ⌝ }
+    {
+        new_operation(area, false)
+    }
+
+    fn with(self, taken: u32, crc: u16, block: [u8; 4096]) -> MaskRomOperation
+        ensures { λ r. ⌜ r ≡ withBlock self taken crc block ⌝ }
+    {
+        let steps = self.steps;
+        MaskRomOperation {
+            area: self.area,
+            checked: self.checked,
+            taken,
+            crc,
+            steps,
+            block,
+        }
+    }
+
+    // Bytes that the block has room for are put behind those that wait.
+    fn hold(self, bytes: &[u8]) -> MaskRomOperation
+        requires { ⌜ (waiting self + length (now bytes) ≤ 4096) × (self .taken + length (now bytes) ≤ 4294967295) ⌝ }
+        ensures { λ r. ⌜ r ≡ holding self (now (bytes .entry)) ⌝ }
+    {
+        let at = (self.taken % 4096) as usize;
+        let mut block = self.block;
+        bytes::copy(bytes, &mut block[at..]);
+        let crc = covered(self.checked, self.crc, bytes);
+        self.with(self.taken + (bytes.len() as u32), crc, block)
+    }
+
+    fn after_part(self, step: PartStep) -> PartStepped
+        ensures { λ r. ⌜ r ≡ parted step self ⌝ }
+    {
+        PartStepped { step, next: self }
+    }
+
+    // Hands over the next bytes of the image.
+    pub fn part(self, part: &[u8], out: &mut [u8]) -> PartStepped
+        ensures { λ r. ⌜ Meets (partTold (r .step)) (r .next) (now (out .entry)) (now (out .exit)) self (partStep self (now (part .entry)) (length (now (out .entry)))) ⌝ }
+    {
+        if out.len() < BLOCK {
+            return self.after_part(PartStep::OutputTooShort);
+        }
+        let steps = self.steps;
+        let MaskRomSteps::Writing = steps else {
+            return self.after_part(PartStep::AlreadyClosed);
+        };
+        let taken = self.taken as usize;
+        if LONGEST < taken + part.len() {
+            return self.after_part(PartStep::ImageTooLong);
+        }
+        let at = taken % BLOCK;
+        let n = least(BLOCK - at, part.len());
+        let next = self.hold(&part[..n]);
+        if at + n < BLOCK {
+            return next.after_part(PartStep::Taken(n));
+        }
+        let block = next.block;
+        let size = put(block, BLOCK, out);
+        next.after_part(PartStep::WriteControl(n, control_of(self.area, size)))
+    }
+
+    fn moved_to(self, to: Moved) -> MaskRomOperation
+        ensures { λ r. ⌜ r ≡ withMoved self (to .crc) (to .steps) ⌝ }
+    {
+        let steps = to.steps;
+        let block = self.block;
+        MaskRomOperation {
+            area: self.area,
+            checked: self.checked,
+            taken: self.taken,
+            crc: to.crc,
+            steps,
+            block,
+        }
+    }
+
+    fn after_close(self, step: UploadStep) -> CloseStepped
+        ensures { λ r. ⌜ r ≡ closedWith step self ⌝ }
+    {
+        CloseStepped { step, next: self }
+    }
+
+    // The image is complete: its next transfer, or the finish.
+    pub fn close(self, out: &mut [u8]) -> CloseStepped
+        ensures { λ r. ⌜ Meets (stepTold (r .step)) (r .next) (now (out .entry)) (now (out .exit)) self (closeStep self (length (now (out .entry)))) ⌝ }
+    {
+        if out.len() < BLOCK {
+            return self.after_close(UploadStep::OutputTooShort);
+        }
+        let n = (self.taken % 4096) as usize;
+        let steps = self.steps;
+        let block = self.block;
+        let to = send(steps, self.checked, self.crc, block, n, out);
+        let step = asked(steps, self.area, to.size);
+        self.moved_to(to).after_close(step)
+    }
+}
+
+fn new_whole(area: u16, checked: bool, length: u32) -> WholeUpload
+    ensures { λ r. ⌜ r ≡ freshWhole area checked length ⌝ }
+{
+    WholeUpload {
+        area,
+        checked,
+        length,
+        taken: 0,
+        crc: CRC_START,
+        steps: MaskRomSteps::Writing,
+    }
+}
+
+fn start_whole(area: u16, checked: bool, image: &[u8]) -> WholeStart
+    ensures { λ r. ⌜ StartMeets r area checked (now (image .entry)) ⌝ }
+{
+    let n = image.len();
+    if LONGEST < n {
+        let upload = new_whole(area, checked, 0);
+        return WholeStart {
+            start: UploadStart::ImageTooLong,
+            upload,
+        };
+    }
+    let upload = new_whole(area, checked, n as u32);
+    WholeStart {
+        start: UploadStart::Started,
+        upload,
+    }
+}
+
+// Starts the upload of a whole image with its check.
+pub fn write_area(area: u16, image: &[u8]) -> WholeStart
+    ensures { λ r. ⌜ StartMeets r area true (now (image .entry)) ⌝ }
+{
+    start_whole(area, true, image)
+}
+
+// Starts the upload of a whole image with 00 00 in the place of its check.
+pub fn write_area_no_crc(area: u16, image: &[u8]) -> WholeStart
+    ensures { λ r. ⌜ StartMeets r area false (now (image .entry)) ⌝ }
+{
+    start_whole(area, false, image)
+}
+
+// How many bytes of the image go with the next step, of those that are left.
+fn chunk_size(steps: MaskRomSteps, left: usize) -> usize
+    ensures { λ r. ⌜ r ≡ min (most steps) left ⌝ }
+{
+    match steps {
+        MaskRomSteps::Writing => least(BLOCK, left),
+        _ => 0,
+    }
+}
+
+// The bytes at the front of a block of zeros.
+fn block_of(bytes: &[u8]) -> [u8; 4096]
+    requires { ⌜ length (now bytes) ≤ 4096 ⌝ }
+    ensures { λ r. ⌜ take (length (now (bytes .entry))) r ≡ now (bytes .entry) ⌝ }
+{
+    let mut block = [0u8; 4096];
+    bytes::copy(bytes, &mut block);
+    block
+}
+
+impl WholeUpload {
+    fn moved_on(self, n: usize, to: Moved) -> WholeUpload
+        requires { ⌜ self .taken + n ≤ 4294967295 ⌝ }
+        ensures { λ r. ⌜ r ≡ sentOn self n (to .crc) (to .steps) ⌝ }
+    {
+        let steps = to.steps;
+        WholeUpload {
+            area: self.area,
+            checked: self.checked,
+            length: self.length,
+            taken: self.taken + (n as u32),
+            crc: to.crc,
+            steps,
+        }
+    }
+
+    fn after_step(self, step: UploadStep) -> WholeStepped
+        ensures { λ r. ⌜ r ≡ steppedWith step self ⌝ }
+    {
+        WholeStepped { step, next: self }
+    }
+
+    fn send_on(self, chunk: &[u8], out: &mut [u8]) -> WholeStepped
+        requires { ⌜ (length (now chunk) ≤ 4096) × (self .taken + length (now chunk) ≤ 4294967295) × (4096 ≤ length (now out)) ⌝ }
+        ensures { λ r. ⌜ Meets (stepTold (r .step)) (r .next) (now (out .entry)) (now (out .exit)) self (given (sendsOn self (now (chunk .entry)))) ⌝ }
+    {
+        let n = chunk.len();
+        let steps = self.steps;
+        let crc = covered(self.checked, self.crc, chunk);
+        let block = block_of(chunk);
+        let to = send(steps, self.checked, crc, block, n, out);
+        let step = asked(steps, self.area, to.size);
+        self.moved_on(n, to).after_step(step)
+    }
+
+    // The next transfer of the image, or the finish.
+    pub fn step(self, image: &[u8], out: &mut [u8]) -> WholeStepped
+        ensures { λ r. ⌜ Meets (stepTold (r .step)) (r .next) (now (out .entry)) (now (out .exit)) self (wholeStep self (now (image .entry)) (length (now (out .entry)))) ⌝ }
+    {
+        if out.len() < BLOCK {
+            return self.after_step(UploadStep::OutputTooShort);
+        }
+        let length = image.len();
+        if length != (self.length as usize) {
+            return self.after_step(UploadStep::ImageDiffers);
+        }
+        let steps = self.steps;
+        let from = least(self.taken as usize, length);
+        let end = from + chunk_size(steps, length - from);
+        self.send_on(&image[from..end], out)
+    }
+}
