@@ -414,11 +414,13 @@ pub fn whole_list(tokens: &mut Tokens) -> Answer {
     Ok(start_upload(tokens)?.list())
 }
 
+const CUT_LIMIT: u64 = 16;
+
 /// The Rust has no part-wise upload; demand 3 says that every cut gives the whole upload's list.
 pub fn cut_list(tokens: &mut Tokens) -> Answer {
     let area = tokens.u16()?;
     let check = tokens.flag()?;
-    let count = tokens.u16()?;
+    let count = tokens.up_to(CUT_LIMIT)?;
     let mut some = false;
     for _ in 0..count {
         some |= tokens.len()? > 0;

@@ -15,6 +15,7 @@ use crate::{
 };
 
 const SLOTS: usize = 8;
+const STORE_LIMIT: u64 = 65_536;
 const FLASH_LIMIT: usize = 65_536 * SECTOR_SIZE as usize;
 
 pub fn transport_refusal(e: &MockTransportError) -> String {
@@ -67,7 +68,7 @@ impl OperationSteps<()> for Once<'_> {
 }
 
 pub fn start_default(tokens: &mut Tokens) -> Result<(Stand, String), Stop> {
-    let store = tokens.u32()? as usize;
+    let store = tokens.up_to(STORE_LIMIT)? as usize;
     tokens.end()?;
     Ok(started(Stand { mock: MockDevice::default(), store, named: BTreeSet::new() }))
 }
@@ -79,7 +80,7 @@ fn started(stand: Stand) -> (Stand, String) {
 
 /// No device where the Rust refuses the configuration.
 pub fn start_configured(tokens: &mut Tokens) -> Result<(Option<Stand>, String), Stop> {
-    let store = tokens.u32()? as usize;
+    let store = tokens.up_to(STORE_LIMIT)? as usize;
     let config = MockDeviceConfig {
         block_size_sectors: tokens.u16()?,
         chip_info: tokens.array()?,

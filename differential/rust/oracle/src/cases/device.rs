@@ -185,9 +185,8 @@ fn default_device() -> Case {
     lines
 }
 
-pub fn random_start(rng: &mut Rng) -> (String, usize) {
+pub fn random_start(rng: &mut Rng, store: usize) -> (String, usize) {
     let sectors = rng.pick(&[0, 1, 2, 4, 8, 16]);
-    let store = rng.pick(&[0, 7, 8, 64, 200, 512, 4096, 65_536]);
     let flash = any_data(rng, sectors * 512);
     let bytes = |rng: &mut Rng, len| x(&rng.bytes(len));
     let (chip, id, capability, extra) = (bytes(rng, 16), bytes(rng, 5), bytes(rng, 8), bytes(rng, 5));
@@ -196,7 +195,8 @@ pub fn random_start(rng: &mut Rng) -> (String, usize) {
 
 /// A long sequence of raw calls, most of them parts of good transactions.
 pub fn random(rng: &mut Rng) -> Case {
-    let (start, sectors) = random_start(rng);
+    let store = rng.pick(&[0, 7, 8, 64, 200, 512, 4096, 65_536]);
+    let (start, sectors) = random_start(rng, store);
     let mut lines = vec![start];
     let until = 40 + rng.below(100);
     while lines.len() < until {
@@ -266,16 +266,16 @@ fn noise(rng: &mut Rng) -> String {
             let len = rng.below(40);
             format!("bwr {}", any_data(rng, len))
         }
-        _ => control(rng),
+        _ => control(rng, 12),
     }
 }
 
-pub fn control(rng: &mut Rng) -> String {
+pub fn control(rng: &mut Rng, areas: usize) -> String {
     let len = if rng.one_in(4) { rng.below(600) } else { rng.below(20) };
     let header = if rng.one_in(8) {
         format!("{} {} {}", rng.byte(), rng.byte(), rng.half())
     } else {
         "64 12 0".into()
     };
-    format!("ctl {header} {} {}", rng.below(12), any_data(rng, len))
+    format!("ctl {header} {} {}", rng.below(areas), any_data(rng, len))
 }

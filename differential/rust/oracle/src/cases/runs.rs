@@ -89,33 +89,41 @@ fn command_sent_by_hand() -> Case {
     lines
 }
 
+/// In slots of 8,192 bytes.
 fn uploads() -> Vec<Case> {
     let mut cases = Vec::new();
-    for len in [0, 1, 4093, 4094, 4095, 4096, 8190, 8191, 8192] {
+    for len in [0, 1, 4093, 4094, 4095, 4096, 8000, 8189] {
         let needed = len / 4096 + 4;
-        let mut lines = vec![configured(200_000, "s 512 1")];
+        let mut lines = vec![configured(65_536, "s 512 1")];
         for budget in 0..needed {
             lines.extend([format!("upl {} 1 r {len} 7", 10 + budget), format!("urn {budget}"), "urn 9".into()]);
         }
         lines.extend(["urn 0", "urn 1", "urn 2"].map(String::from));
-        lines.extend([format!("upl 10 0 f {len} 1"), "urn 1".into(), "ust 4096 0".into(), "urn 9".into()]);
+        lines.extend([format!("upl 9 0 f {len} 1"), "urn 1".into(), "ust 4096 0".into(), "urn 9".into()]);
+        lines.extend(["upl 9 1 x0102".into(), "urn 9".into()]);
         cases.push(lines);
     }
-    let mut full = vec![configured(32_776, "x"), "upl 5 1 f 4094 1".into(), "urn 9".into()];
+    let mut full = vec![configured(32_776, "x"), "upl 5 1 f 4093 1".into(), "urn 9".into()];
     full.extend(["upl 5 1 x".into(), "urn 9".into(), "upl 6 1 x01".into(), "urn 9".into()]);
     cases.push(full);
     cases
 }
 
 pub fn random(rng: &mut Rng) -> Case {
-    let (start, sectors) = random_start(rng);
+    let store = if rng.one_in(10) { rng.pick(&[0, 64, 4096, 32_768]) } else { 65_536 };
+    let (start, sectors) = random_start(rng, store);
     let mut lines = vec![start];
+    let mut uploads = 0;
     let until = 20 + rng.below(60);
     while lines.len() < until {
         match rng.below(8) {
-            0 => random_upload(rng, &mut lines),
+            // Few and to areas of their own, so that few cases end for want of room.
+            0 if uploads < 5 => {
+                uploads += 1;
+                random_upload(rng, 100 + uploads, &mut lines);
+            }
             1 => lines.extend(transaction(rng, sectors).into_iter().take(1)),
-            2 => lines.push(control(rng)),
+            2 => lines.push(control(rng, 3)),
             _ => random_run(rng, sectors, &mut lines),
         }
     }
@@ -133,11 +141,17 @@ fn random_run(rng: &mut Rng, sectors: usize, lines: &mut Vec<String>) {
     lines.push(format!("run {}", 4 + rng.below(3)));
 }
 
-fn random_upload(rng: &mut Rng, lines: &mut Vec<String>) {
-    let len = rng.pick(&[0, 1, 2, 20, 50, 300, 4093, 4094, 4095, 4096, 8190, 8191]);
-    lines.push(format!("upl {} {} {}", rng.below(12), rng.below(2), any_data(rng, len)));
-    while rng.one_in(3) {
-        lines.push(format!("urn {}", rng.below(3)));
+fn random_upload(rng: &mut Rng, area: usize, lines: &mut Vec<String>) {
+    let mut len = rng.pick(&[0, 1, 2, 20, 50, 300, 4093, 4094, 4095, 4096, 5000, 8189]);
+    for _ in 0..1 + rng.below(2) {
+        lines.push(format!("upl {area} {} {}", rng.below(2), any_data(rng, len)));
+        if rng.one_in(8) {
+            lines.push(format!("ust 4096 {}", rng.byte()));
+        }
+        while rng.one_in(3) {
+            lines.push(format!("urn {}", rng.below(3)));
+        }
+        lines.push(format!("urn {}", 4 + rng.below(3)));
+        len = if len < 8000 { rng.below(50) } else { 0 };
     }
-    lines.push(format!("urn {}", 4 + rng.below(3)));
 }
