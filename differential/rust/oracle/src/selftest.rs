@@ -3,9 +3,11 @@
 use std::{fs, io};
 
 use rockusb::{
+    device::Transport,
     operation::{OperationSteps, UsbStep, read_lba, write_lba},
-    protocol::CommandBlock,
+    protocol::{CommandBlock, CommandStatus, Status},
 };
+use rockusb_mock::MockDevice;
 
 use crate::{
     blocks::asked,
@@ -155,6 +157,15 @@ fn lost() -> Vec<String> {
 
 fn faults() -> Vec<String> {
     let mut bad = Vec::new();
+    bad.extend(narrowed_counts());
+    bad.extend(narrowed_write());
+    bad.extend(odd_lengths());
+    bad.extend(short_outputs());
+    bad
+}
+
+fn narrowed_counts() -> Vec<String> {
+    let mut bad = Vec::new();
     for (len, wanted) in [(33_553_920, 65_535), (33_554_432, 0), (33_554_944, 1)] {
         let mut data = vec![0; len];
         let written = sent_count(write_lba(0, &data));
@@ -165,6 +176,29 @@ fn faults() -> Vec<String> {
             bad.push(format!("{len}: count {wanted} was wanted"));
         }
     }
+    bad
+}
+
+fn sent_count<T>(mut operation: impl OperationSteps<T>) -> (u16, u32) {
+    let UsbStep::WriteBulk { data } = operation.step() else {
+        unreachable!("the first step of an operation")
+    };
+    let block = CommandBlock::from_bytes(data).expect("the operation's own command");
+    (block.cd_length(), block.transfer_length())
+}
+
+/// The narrowed count is not noticed on the way either: one sector of 65,537 is written, and that is a success.
+fn narrowed_write() -> Vec<String> {
+    let data = vec![0; 33_554_944];
+    let mut mock = MockDevice::default();
+    let moved = mock.device().transport_mut().handle_operation(write_lba(0, &data)).map(u32::from);
+    let changed = mock.flash().iter().filter(|byte| **byte == 0).count();
+    println!("  33554944 bytes written to the mock: {moved:?}, {changed} bytes of its 65536 changed");
+    if matches!(moved, Ok(512)) && changed == 512 { Vec::new() } else { vec!["512 was wanted".into()] }
+}
+
+fn odd_lengths() -> Vec<String> {
+    let mut bad = Vec::new();
     for len in [1, 511, 513] {
         let mut data = vec![0; len];
         let write = asked(|| drop(write_lba(0, &data))).is_err();
@@ -177,14 +211,29 @@ fn faults() -> Vec<String> {
     bad
 }
 
-fn panics(it_did: bool) -> &'static str {
-    if it_did { "panics" } else { "goes on" }
+fn short_outputs() -> Vec<String> {
+    let mut bad = Vec::new();
+    for (len, wanted) in [(23, None), (24, Some(31)), (30, Some(31))] {
+        let mut out = vec![0; len];
+        let count = asked(|| CommandBlock::chip_info().to_bytes(&mut out)).ok();
+        println!("  CommandBlock::to_bytes into {len} bytes: {}", answers(count));
+        if count != wanted {
+            bad.push(format!("{len}: {wanted:?} was wanted"));
+        }
+    }
+    let status = CommandStatus { tag: 0, residue: 0, status: Status::SUCCESS };
+    let count = asked(|| status.to_bytes(&mut [0; 12])).ok();
+    println!("  CommandStatus::to_bytes into 12 bytes: {}", answers(count));
+    if count.is_some() {
+        bad.push("12: a panic was wanted".into());
+    }
+    bad
 }
 
-fn sent_count<T>(mut operation: impl OperationSteps<T>) -> (u16, u32) {
-    let UsbStep::WriteBulk { data } = operation.step() else {
-        unreachable!("the first step of an operation")
-    };
-    let block = CommandBlock::from_bytes(data).expect("the operation's own command");
-    (block.cd_length(), block.transfer_length())
+fn answers(count: Option<usize>) -> String {
+    count.map_or("panics".into(), |n| format!("answers {n}"))
+}
+
+fn panics(it_did: bool) -> &'static str {
+    if it_did { "panics" } else { "goes on" }
 }
