@@ -10,7 +10,7 @@ use native.Mathlib.Omega.{arith}
 use types.Run.{OneOf, miss}
 use denote.Enum.Declared.{tagOf}
 use Rattle.maskrom.proofs.MaskRomSteps.{the-type}
-use Rattle.maskrom.specs.declared.Moved.{Moved}
+use Rattle.maskrom.specs.declared.transfer.Moved.{Moved}
 use Rattle.maskrom.specs.declared.MaskRomOperation.{MaskRomOperation}
 use Rattle.maskrom.specs.declared.WholeUpload.{WholeUpload}
 use Rattle.maskrom.specs.declared.MaskRomSteps.{MaskRomSteps}

@@ -14,6 +14,10 @@ ghost use Rattle.maskrom.specs.Answers.{control, partTold, stepTold};
 ghost use Rattle.maskrom.specs.PartWise.{fresh, waiting, withBlock, holding, parted, partStep, asks, withMoved, closedWith, closeStep};
 ghost use Rattle.maskrom.specs.Whole.{freshWhole, StartMeets, most, sentOn, steppedWith, sendsOn, wholeStep};
 
+mod transfer;
+
+use transfer::Moved;
+
 const BLOCK: usize = 4096;
 
 const LONGEST: usize = 4_294_967_295;
@@ -99,165 +103,6 @@ pub struct WholeStepped {
     pub next: WholeUpload,
 }
 
-// What was put into the output, the check behind it, and where the upload then stands.
-pub struct Moved {
-    pub size: usize,
-    pub crc: u16,
-    pub steps: MaskRomSteps,
-}
-
-fn least(a: usize, b: usize) -> usize
-    ensures { λ r. ⌜ r ≡ min a b ⌝ }
-{
-    if a < b { a } else { b }
-}
-
-fn control_of(area: u16, size: usize) -> Control
-    ensures { λ r. ⌜ r ≡ control area size ⌝ }
-{
-    Control {
-        request_type: 0x40,
-        request: 0xc,
-        value: 0,
-        index: area,
-        size,
-    }
-}
-
-// Without a check nothing is worked out.
-fn covered(checked: bool, crc: u16, bytes: &[u8]) -> u16
-    ensures { λ r. ⌜ r ≡ register checked crc (now (bytes .entry)) ⌝ }
-{
-    if checked {
-        crc::update(crc, bytes)
-    } else {
-        crc
-    }
-}
-
-fn with_zero(block: [u8; 4096], n: usize) -> [u8; 4096]
-    requires { ⌜ n + 1 ≤ 4096 ⌝ }
-    ensures { λ r. ⌜ take (n + 1) r ≡ take n block ++ (0 ∷ []) ⌝ }
-{
-    let mut b = block;
-    b[n] = 0;
-    b
-}
-
-// The two bytes of the check, as a number.
-fn shown(checked: bool, crc: u16) -> u16
-    ensures { λ r. ⌜ highFirst 2 r ≡ checkBytes checked crc ⌝ }
-{
-    if checked { crc } else { 0 }
-}
-
-fn with_check(block: [u8; 4096], n: usize, check: u16) -> [u8; 4096]
-    requires { ⌜ n + 2 ≤ 4096 ⌝ }
-    ensures { λ r. ⌜ take (n + 2) r ≡ take n block ++ highFirst 2 check ⌝ }
-{
-    let mut b = block;
-    b[n] = (check / 256) as u8;
-    b[n + 1] = (check % 256) as u8;
-    b
-}
-
-// The first n bytes of the block go to the front of the output.
-fn put(block: [u8; 4096], n: usize, out: &mut [u8]) -> usize
-    requires { ⌜ (n ≤ 4096) × (4096 ≤ length (now out)) ⌝ }
-    ensures { λ r. ⌜ (r ≡ length (take n block)) × (now (out .exit) ≡ front (take n block) (now (out .entry))) ⌝ }
-{
-    bytes::copy(&block[..n], out)
-}
-
-// The next n bytes of the image stand at the front of the block, and the check covers them.
-fn write_on(checked: bool, crc: u16, block: [u8; 4096], n: usize, out: &mut [u8]) -> Moved
-    requires { ⌜ (n ≤ 4096) × (4096 ≤ length (now out)) ⌝ }
-    ensures { λ r. ⌜ SendMeets r (now (out .entry)) (now (out .exit)) (writing checked crc (take n block)) ⌝ }
-{
-    if n == 4096 {
-        let size = put(block, n, out);
-        return Moved {
-            size,
-            crc,
-            steps: MaskRomSteps::Writing,
-        };
-    }
-    if n == 4095 {
-        let padded = with_zero(block, n);
-        let size = put(padded, n + 1, out);
-        let zero = [0u8; 1];
-        return Moved {
-            size,
-            crc: covered(checked, crc, &zero),
-            steps: MaskRomSteps::Check,
-        };
-    }
-    let last = with_check(block, n, shown(checked, crc));
-    let size = put(last, n + 2, out);
-    if n == 4094 {
-        return Moved {
-            size,
-            crc,
-            steps: MaskRomSteps::Dummy,
-        };
-    }
-    Moved {
-        size,
-        crc,
-        steps: MaskRomSteps::Done,
-    }
-}
-
-// One step of an image of which no more will come.
-fn send(
-    steps: MaskRomSteps,
-    checked: bool,
-    crc: u16,
-    block: [u8; 4096],
-    n: usize,
-    out: &mut [u8],
-) -> Moved
-    requires { ⌜ (n ≤ 4096) × (4096 ≤ length (now out)) ⌝ }
-    ensures { λ r. ⌜ SendMeets r (now (out .entry)) (now (out .exit)) (movesAt steps checked crc (take n block)) ⌝ }
-{
-    match steps {
-        MaskRomSteps::Writing => write_on(checked, crc, block, n, out),
-        MaskRomSteps::Check => {
-            let last = with_check(block, 0, shown(checked, crc));
-            let size = put(last, 2, out);
-            Moved {
-                size,
-                crc,
-                steps: MaskRomSteps::Done,
-            }
-        }
-        MaskRomSteps::Dummy => {
-            let zero = with_zero(block, 0);
-            let size = put(zero, 1, out);
-            Moved {
-                size,
-                crc,
-                steps: MaskRomSteps::Done,
-            }
-        }
-        MaskRomSteps::Done => Moved {
-            size: 0,
-            crc,
-            steps: MaskRomSteps::Done,
-        },
-    }
-}
-
-// What is asked of the transport: a control write, or nothing any more.
-fn asked(steps: MaskRomSteps, area: u16, size: usize) -> UploadStep
-    ensures { λ r. ⌜ stepTold r ≡ given (asks steps area size) ⌝ }
-{
-    match steps {
-        MaskRomSteps::Done => UploadStep::Finished,
-        _ => UploadStep::WriteControl(control_of(area, size)),
-    }
-}
-
 fn new_operation(area: u16, checked: bool) -> MaskRomOperation
     ensures { λ r. ⌜ r ≡ fresh area checked ⌝ }
 {
@@ -307,7 +152,7 @@ impl MaskRomOperation {
         let at = (self.taken % 4096) as usize;
         let mut block = self.block;
         bytes::copy(bytes, &mut block[at..]);
-        let crc = covered(self.checked, self.crc, bytes);
+        let crc = transfer::covered(self.checked, self.crc, bytes);
         self.with(self.taken + (bytes.len() as u32), crc, block)
     }
 
@@ -333,14 +178,14 @@ impl MaskRomOperation {
             return self.after_part(PartStep::ImageTooLong);
         }
         let at = taken % BLOCK;
-        let n = least(BLOCK - at, part.len());
+        let n = transfer::least(BLOCK - at, part.len());
         let next = self.hold(&part[..n]);
         if at + n < BLOCK {
             return next.after_part(PartStep::Taken(n));
         }
         let block = next.block;
-        let size = put(block, BLOCK, out);
-        next.after_part(PartStep::WriteControl(n, control_of(self.area, size)))
+        let size = transfer::put(block, BLOCK, out);
+        next.after_part(PartStep::WriteControl(n, transfer::control_of(self.area, size)))
     }
 
     fn moved_to(self, to: Moved) -> MaskRomOperation
@@ -374,8 +219,8 @@ impl MaskRomOperation {
         let n = (self.taken % 4096) as usize;
         let steps = self.steps;
         let block = self.block;
-        let to = send(steps, self.checked, self.crc, block, n, out);
-        let step = asked(steps, self.area, to.size);
+        let to = transfer::send(steps, self.checked, self.crc, block, n, out);
+        let step = transfer::asked(steps, self.area, to.size);
         self.moved_to(to).after_close(step)
     }
 }
@@ -430,19 +275,9 @@ fn chunk_size(steps: MaskRomSteps, left: usize) -> usize
     ensures { λ r. ⌜ r ≡ min (most steps) left ⌝ }
 {
     match steps {
-        MaskRomSteps::Writing => least(BLOCK, left),
+        MaskRomSteps::Writing => transfer::least(BLOCK, left),
         _ => 0,
     }
-}
-
-// The bytes at the front of a block of zeros.
-fn block_of(bytes: &[u8]) -> [u8; 4096]
-    requires { ⌜ length (now bytes) ≤ 4096 ⌝ }
-    ensures { λ r. ⌜ take (length (now (bytes .entry))) r ≡ now (bytes .entry) ⌝ }
-{
-    let mut block = [0u8; 4096];
-    bytes::copy(bytes, &mut block);
-    block
 }
 
 impl WholeUpload {
@@ -473,10 +308,10 @@ impl WholeUpload {
     {
         let n = chunk.len();
         let steps = self.steps;
-        let crc = covered(self.checked, self.crc, chunk);
-        let block = block_of(chunk);
-        let to = send(steps, self.checked, crc, block, n, out);
-        let step = asked(steps, self.area, to.size);
+        let crc = transfer::covered(self.checked, self.crc, chunk);
+        let block = transfer::block_of(chunk);
+        let to = transfer::send(steps, self.checked, crc, block, n, out);
+        let step = transfer::asked(steps, self.area, to.size);
         self.moved_on(n, to).after_step(step)
     }
 
@@ -492,7 +327,7 @@ impl WholeUpload {
             return self.after_step(UploadStep::ImageDiffers);
         }
         let steps = self.steps;
-        let from = least(self.taken as usize, length);
+        let from = transfer::least(self.taken as usize, length);
         let end = from + chunk_size(steps, length - from);
         self.send_on(&image[from..end], out)
     }

@@ -10,8 +10,8 @@ use Rattle.maskrom.specs.declared.MaskRomSteps.the-variants.{Done}
 use Rattle.maskrom.specs.Upload.{checkBytes}
 use Rattle.maskrom.specs.Moves.{movesAt}
 use Rattle.maskrom.proofs.Cases.{meets, at-steps}
-use Rattle.maskrom.proofs.send.Statement.{statement}
-use Rattle.maskrom.proofs.send.Tie as tie
+use Rattle.maskrom.proofs.transfer.send.Statement.{statement}
+use Rattle.maskrom.proofs.transfer.send.Tie as tie
 
 returns : tie.Need-returns
 unfolding movesAt

@@ -7,8 +7,8 @@ use mathlib.Core.List.{List}
 use denote.Ref.{now}
 use lib.ListN.{length, take, replicate}
 use Rattle.maskrom.proofs.Lists.{copied, take-front}
-use Rattle.maskrom.proofs.block_of.Statement.{statement}
-use Rattle.maskrom.proofs.block_of.Tie as tie
+use Rattle.maskrom.proofs.transfer.block_of.Statement.{statement}
+use Rattle.maskrom.proofs.transfer.block_of.Tie as tie
 
 returns : tie.Need-returns
 returns c =

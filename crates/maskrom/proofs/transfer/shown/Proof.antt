@@ -3,8 +3,8 @@
 use mathlib.Core.Path.{refl}
 use Rattle.wire.specs.Bytes.{lowFirst, highFirst}
 use Rattle.maskrom.specs.Upload.{checkBytes}
-use Rattle.maskrom.proofs.shown.Statement.{statement}
-use Rattle.maskrom.proofs.shown.Tie as tie
+use Rattle.maskrom.proofs.transfer.shown.Statement.{statement}
+use Rattle.maskrom.proofs.transfer.shown.Tie as tie
 
 returns : tie.Need-returns
 unfolding checkBytes

@@ -13,8 +13,8 @@ use Rattle.maskrom.specs.declared.MaskRomSteps.the-variants.{Writing, Ch
 use Rattle.maskrom.specs.Upload.{checkBytes}
 use Rattle.maskrom.specs.Moves.{register, moves, SendMeets}
 use Rattle.maskrom.proofs.Cases.{writing-block, writing-pad, writing-dummy, writing-last, meets}
-use Rattle.maskrom.proofs.write_on.Statement.{statement}
-use Rattle.maskrom.proofs.write_on.Tie as tie
+use Rattle.maskrom.proofs.transfer.write_on.Statement.{statement}
+use Rattle.maskrom.proofs.transfer.write_on.Tie as tie
 
 long : (s : tie.Start) → length (take (s .args .n) (s .args .block)) ≡ s .args .n
 long s = length-take-le (s .args .n) (s .args .block) (search needs)
