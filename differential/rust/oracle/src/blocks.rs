@@ -5,9 +5,9 @@ use std::panic::{AssertUnwindSafe, catch_unwind};
 use rockusb::{
     operation::{OperationSteps, UsbOperationError, UsbStep},
     protocol::{
-        COMMAND_BLOCK_BYTES, Capability, ChipInfo, CommandBlock,
-        CommandBlockParseError, CommandCode, CommandStatus, CommandStatusParseError, Direction,
-        FlashId, FlashInfo, ResetOpcode, Status, StorageIndex,
+        COMMAND_BLOCK_BYTES, Capability, ChipInfo, CommandBlock, CommandBlockParseError, CommandCode,
+        CommandStatus, CommandStatusParseError, Direction, FlashId, FlashInfo, ResetOpcode, Status,
+        StorageIndex,
     },
 };
 
@@ -255,4 +255,3 @@ pub fn sectors(tokens: &mut Tokens) -> Answer {
     let block = CommandBlock::from_bytes(command).expect("the operation's own command");
     Ok(format!("0 {}", block.cd_length()))
 }
-

@@ -86,5 +86,10 @@ fn report(counts: &BTreeMap<&str, Count>, more: bool, status: &str) {
     if more {
         println!("the program answered more lines than it was asked");
     }
-    println!("cases {}, outside {}, differences {}", all.lines, all.outside, all.differences + usize::from(more));
+    println!(
+        "cases {}, outside {}, differences {}",
+        all.lines,
+        all.outside,
+        all.differences + usize::from(more)
+    );
 }

@@ -60,7 +60,9 @@ fn sample(kinds: &[Kind]) -> io::Result<bool> {
 fn dispatch(args: &[&str]) -> Option<io::Result<bool>> {
     Some(match args {
         ["answer"] => answer(),
-        ["generate", seed, count, kind] => generate(seed.parse().ok()?, count.parse().ok()?, &Kind::named(kind)?),
+        ["generate", seed, count, kind] => {
+            generate(seed.parse().ok()?, count.parse().ok()?, &Kind::named(kind)?)
+        }
         ["sample", kind] => sample(&Kind::named(kind)?),
         ["compare", program, kind, seed, count] => {
             compare::compare(program, &Kind::named(kind)?, seed.parse().ok()?, count.parse().ok()?)

@@ -5,9 +5,7 @@ use std::marker::PhantomData;
 use rockusb::{
     device::{Error, Transport},
     operation::{MaskRomOperation, OperationSteps, Transferred, UsbOperationError, UsbStep},
-    protocol::{
-        COMMAND_BLOCK_BYTES, Capability, ChipInfo, FlashId, FlashInfo, SECTOR_SIZE, StorageIndex,
-    },
+    protocol::{COMMAND_BLOCK_BYTES, Capability, ChipInfo, FlashId, FlashInfo, SECTOR_SIZE, StorageIndex},
 };
 
 use crate::{

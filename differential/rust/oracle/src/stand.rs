@@ -122,7 +122,8 @@ impl Stand {
     }
 
     pub fn show(&self) -> String {
-        let areas: Vec<String> = self.held().map(|(area, bytes)| format!(" {area} {}", show(bytes))).collect();
+        let areas: Vec<String> =
+            self.held().map(|(area, bytes)| format!(" {area} {}", show(bytes))).collect();
         let flash = show(self.mock.flash());
         format!("{flash} | {}{} | {}", areas.len(), areas.concat(), self.reset())
     }

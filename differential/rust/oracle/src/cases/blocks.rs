@@ -91,12 +91,16 @@ fn orders() -> Vec<String> {
 fn written() -> Vec<String> {
     let mut lines = Vec::new();
     for op in ["chp", "fid", "fin", "cap", "sto"] {
-        for (len, fill, tag) in [(31, 0, 0), (32, 255, 1), (64, 170, u32::MAX), (65, 1, 0x0102_0304), (30, 0, 5), (24, 0, 5)] {
+        for (len, fill, tag) in
+            [(31, 0, 0), (32, 255, 1), (64, 170, u32::MAX), (65, 1, 0x0102_0304), (30, 0, 5), (24, 0, 5)]
+        {
             lines.push(format!("cwr {len} {fill} {op} {tag}"));
         }
     }
     for op in ["era", "erf", "rdl", "wrl"] {
-        for (first, count) in [(0, 0), (0, 1), (64, 2), (0x0102_0304, 0x0506), (u32::MAX, 65_535), (1, 256), (256, 255)] {
+        for (first, count) in
+            [(0, 0), (0, 1), (64, 2), (0x0102_0304, 0x0506), (u32::MAX, 65_535), (1, 256), (256, 255)]
+        {
             lines.push(format!("cwr 31 0 {op} 16909060 {first} {count}"));
             lines.push(format!("cwr 40 170 {op} 4294967295 {first} {count}"));
         }
@@ -139,4 +143,3 @@ fn random_write(rng: &mut Rng, len: usize) -> String {
 pub fn index_argument(rng: &mut Rng) -> String {
     if rng.one_in(2) { format!(" 1 {}", rng.below(13)) } else { format!(" 0 {}", rng.byte()) }
 }
-

@@ -91,8 +91,21 @@ fn unreadable() -> Case {
 
 fn ranges(code: u8) -> Case {
     let mut lines = vec![small()];
-    let edges =
-        [(0, 0), (0, 1), (0, 4), (0, 5), (1, 2), (3, 1), (3, 2), (4, 0), (4, 1), (5, 0), (0, 65_535), (u32::MAX, 0), (u32::MAX, 65_535)];
+    let edges = [
+        (0, 0),
+        (0, 1),
+        (0, 4),
+        (0, 5),
+        (1, 2),
+        (3, 1),
+        (3, 2),
+        (4, 0),
+        (4, 1),
+        (5, 0),
+        (0, 65_535),
+        (u32::MAX, 0),
+        (u32::MAX, 65_535),
+    ];
     for (address, count) in edges {
         let direction = if code == READ_LBA { IN } else { OUT };
         let erases = code == ERASE_LBA || code == ERASE_FORCE;
@@ -138,16 +151,28 @@ fn controls() -> Vec<Case> {
     wrong.push("are 5".into());
 
     let mut between = vec![small(), write(&sector(WRITE_LBA, OUT, 512)), "ctl 64 12 0 9 x0102".into()];
-    between.extend(["bwr f 512 1".into(), "ctl 64 12 1 9 x03".into(), "ctl 64 12 0 9 x".into(), "brd 13 0".into()]);
+    between.extend([
+        "bwr f 512 1".into(),
+        "ctl 64 12 1 9 x03".into(),
+        "ctl 64 12 0 9 x".into(),
+        "brd 13 0".into(),
+    ]);
 
     let mut filling = vec![small()];
     for area in [300, 2, 65_535, 0, 7, 9, 8, 1] {
         filling.push(format!("ctl 64 12 0 {area} r {} 5", area % 11));
     }
-    filling.extend(["ctl 64 12 0 3 x", "ctl 64 12 0 7 f 57 1", "ctl 64 12 0 7 x02", "ctl 64 12 0 9 f 56 3"].map(String::from));
-    filling.extend(["ctl 64 12 0 65535 f 64 4", "ctl 64 12 0 0 f 64 5", "ctl 64 12 0 0 x", "are 0", "are 3", "are 7"].map(String::from));
+    filling.extend(
+        ["ctl 64 12 0 3 x", "ctl 64 12 0 7 f 57 1", "ctl 64 12 0 7 x02", "ctl 64 12 0 9 f 56 3"]
+            .map(String::from),
+    );
+    filling.extend(
+        ["ctl 64 12 0 65535 f 64 4", "ctl 64 12 0 0 f 64 5", "ctl 64 12 0 0 x", "are 0", "are 3", "are 7"]
+            .map(String::from),
+    );
 
-    let mut tiny = vec![configured(7, "x"), "ctl 64 12 0 4 x".into(), "ctl 64 12 0 4 x01".into(), "are 4".into()];
+    let mut tiny =
+        vec![configured(7, "x"), "ctl 64 12 0 4 x".into(), "ctl 64 12 0 4 x01".into(), "are 4".into()];
     tiny.extend(["ctl 64 12 0 5 x01".into(), "are 5".into()]);
     vec![wrong, between, filling, tiny]
 }

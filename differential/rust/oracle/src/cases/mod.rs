@@ -24,15 +24,8 @@ pub enum Kind {
     Large,
 }
 
-pub const ALL: [Kind; 7] = [
-    Kind::Blocks,
-    Kind::Status,
-    Kind::Replies,
-    Kind::Operations,
-    Kind::Device,
-    Kind::Runs,
-    Kind::Uploads,
-];
+pub const ALL: [Kind; 7] =
+    [Kind::Blocks, Kind::Status, Kind::Replies, Kind::Operations, Kind::Device, Kind::Runs, Kind::Uploads];
 
 impl Kind {
     pub fn name(self) -> &'static str {

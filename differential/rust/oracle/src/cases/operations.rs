@@ -117,7 +117,8 @@ fn statuses(op: &Op) -> Vec<Case> {
     }
     given.push(b"USBC".to_vec());
     given.extend((0..=12).map(|len| status_bytes(TAG, 0, 0)[..len].to_vec()));
-    let mut cases: Vec<Case> = given.iter().map(|bytes| case(op, &[round(op, reply(op), Some(x(bytes)))])).collect();
+    let mut cases: Vec<Case> =
+        given.iter().map(|bytes| case(op, &[round(op, reply(op), Some(x(bytes)))])).collect();
     cases.push(case(op, &[round(op, reply(op), None)]));
     cases
 }
@@ -191,7 +192,8 @@ fn refused_starts() -> Vec<Case> {
 
 pub fn random_op(rng: &mut Rng, sectors: usize) -> Op {
     let tag = rng.word();
-    let name = rng.pick(&["chp", "fid", "fin", "cap", "sto", "era", "erf", "rst", "swi", "rdl", "wrl", "rdl", "wrl"]);
+    let name = rng
+        .pick(&["chp", "fid", "fin", "cap", "sto", "era", "erf", "rst", "swi", "rdl", "wrl", "rdl", "wrl"]);
     let first = if rng.one_in(6) { rng.word() } else { rng.below(sectors + 2) as u32 };
     let len = rng.below(5.min(sectors + 2)) * 512;
     let (args, reads, writes) = match name {

@@ -7,9 +7,28 @@ use super::{
 };
 
 const ON_SMALL: [&str; 22] = [
-    "chp 1", "fid 2", "fin 3", "cap 4", "sto 5", "era 6 1 2", "erf 7 3 1", "era 8 4 0", "era 9 4 1", "erf 10 0 5",
-    "rdl 11 1 f 1024 9", "rdl 12 3 f 1024 9", "rdl 13 4 x", "wrl 14 1 r 1024 1", "wrl 15 4 f 512 7", "wrl 16 0 x",
-    "wrl 17 0 s 2048 3", "rst 18 0", "rst 19 4", "swi 20 1 4", "swi 21 0 255", "rdl 4294967295 0 f 2048 1",
+    "chp 1",
+    "fid 2",
+    "fin 3",
+    "cap 4",
+    "sto 5",
+    "era 6 1 2",
+    "erf 7 3 1",
+    "era 8 4 0",
+    "era 9 4 1",
+    "erf 10 0 5",
+    "rdl 11 1 f 1024 9",
+    "rdl 12 3 f 1024 9",
+    "rdl 13 4 x",
+    "wrl 14 1 r 1024 1",
+    "wrl 15 4 f 512 7",
+    "wrl 16 0 x",
+    "wrl 17 0 s 2048 3",
+    "rst 18 0",
+    "rst 19 4",
+    "swi 20 1 4",
+    "swi 21 0 255",
+    "rdl 4294967295 0 f 2048 1",
 ];
 
 pub fn exhaustive() -> Vec<Case> {
@@ -26,8 +45,20 @@ pub fn exhaustive() -> Vec<Case> {
 fn on_default() -> Case {
     let mut lines = vec!["dvd 65536".to_string()];
     for op in [
-        "chp 1", "fid 2", "fin 3", "cap 4", "wrl 5 127 f 512 170", "wrl 6 128 f 512 170", "rdl 7 126 f 1024 0", "era 8 127 1",
-        "erf 9 0 128", "era 10 0 129", "rdl 11 120 f 4096 3", "sto 12", "swi 13 1 1", "rst 14 2",
+        "chp 1",
+        "fid 2",
+        "fin 3",
+        "cap 4",
+        "wrl 5 127 f 512 170",
+        "wrl 6 128 f 512 170",
+        "rdl 7 126 f 1024 0",
+        "era 8 127 1",
+        "erf 9 0 128",
+        "era 10 0 129",
+        "rdl 11 120 f 4096 3",
+        "sto 12",
+        "swi 13 1 1",
+        "rst 14 2",
     ] {
         lines.extend([format!("opn {op}"), "run 4".into()]);
     }
@@ -72,7 +103,13 @@ fn left_open() -> Case {
     let open = [Block::of(READ_LBA, IN, 512), Block::of(WRITE_LBA, OUT, 512), Block::of(0xff, OUT, 0)];
     for block in open {
         for op in ["cap 4", "wrl 14 1 r 512 1"] {
-            lines.extend([write(&block), format!("opn {op}"), "run 9".into(), format!("opn {op}"), "run 9".into()]);
+            lines.extend([
+                write(&block),
+                format!("opn {op}"),
+                "run 9".into(),
+                format!("opn {op}"),
+                "run 9".into(),
+            ]);
         }
     }
     lines
@@ -96,7 +133,11 @@ fn uploads() -> Vec<Case> {
         let needed = len / 4096 + 4;
         let mut lines = vec![configured(65_536, "s 512 1")];
         for budget in 0..needed {
-            lines.extend([format!("upl {} 1 r {len} 7", 10 + budget), format!("urn {budget}"), "urn 9".into()]);
+            lines.extend([
+                format!("upl {} 1 r {len} 7", 10 + budget),
+                format!("urn {budget}"),
+                "urn 9".into(),
+            ]);
         }
         lines.extend(["urn 0", "urn 1", "urn 2"].map(String::from));
         lines.extend([format!("upl 9 0 f {len} 1"), "urn 1".into(), "ust 4096 0".into(), "urn 9".into()]);

@@ -57,7 +57,14 @@ pub fn random(rng: &mut Rng) -> Case {
         damage(rng, &mut bytes);
     }
     vec![match rng.below(4) {
-        0 => format!("swr {} {} {} {} {}", 10 + rng.below(60), rng.byte(), rng.word(), rng.word(), rng.below(2)),
+        0 => format!(
+            "swr {} {} {} {} {}",
+            10 + rng.below(60),
+            rng.byte(),
+            rng.word(),
+            rng.word(),
+            rng.below(2)
+        ),
         1 => format!("smp {}", x(&bytes)),
         _ => format!("srd {}", x(&bytes)),
     }]

@@ -28,10 +28,11 @@ fn stepped(start: &str, len: usize, out: usize, fill: u8) -> Case {
 }
 
 fn lists(image: &str, len: usize) -> Case {
-    let mut cuts = vec!["1 4096", "1 4095", "1 4097", "2 1000 0", "3 0 1 4095", "5 7 13 0 8192 1", "2 4094 2"]
-        .into_iter()
-        .map(String::from)
-        .collect::<Vec<_>>();
+    let mut cuts =
+        vec!["1 4096", "1 4095", "1 4097", "2 1000 0", "3 0 1 4095", "5 7 13 0 8192 1", "2 4094 2"]
+            .into_iter()
+            .map(String::from)
+            .collect::<Vec<_>>();
     if len <= 8193 {
         cuts.push("1 1".into());
         cuts.push("2 0 3".into());
