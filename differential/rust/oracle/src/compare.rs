@@ -22,7 +22,8 @@ struct Count {
 /// Whether there was no difference.
 pub fn compare(program: &str, kinds: &[Kind], seed: u64, count: usize) -> io::Result<bool> {
     let cases: Vec<(Kind, Case)> = generate(kinds, seed, count).collect();
-    let mut child = Command::new(program).stdin(Stdio::piped()).stdout(Stdio::piped()).spawn()?;
+    let mut child =
+        Command::new("sh").args(["-c", program]).stdin(Stdio::piped()).stdout(Stdio::piped()).spawn()?;
     let mut stdin = BufWriter::new(child.stdin.take().expect("piped"));
     let input: Vec<String> = cases.iter().flat_map(|(_, case)| case.clone()).collect();
     let feeder = thread::spawn(move || {
