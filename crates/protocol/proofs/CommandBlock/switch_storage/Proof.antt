@@ -1,0 +1,15 @@
+-- `protocol::CommandBlock::switch_storage` meets its contract: the opcode is the value's number. Assumes nothing.
+use borrow.Author.Needs.{needs}
+use Rattle.protocol.proofs.CommandBlock.switch_storage.Statement.{statement}
+use Rattle.protocol.proofs.CommandBlock.switch_storage.Tie as tie
+
+returns : tie.Need-returns
+returns c = cc
+
+pub switch-storage-spec : {M : Type 1} → statement M
+switch-storage-spec =
+    tie.close
+    (tie.spec
+    (λ c κs. search needs)
+    (λ c κs. search needs)
+    returns)

@@ -1,0 +1,2 @@
+-- Laws of the command block: `Reading` by cases of the rule.
+pub mod Reading

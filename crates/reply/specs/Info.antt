@@ -1,0 +1,16 @@
+-- Flash info, 11 bytes: sectors u32 and block size u16, both little-endian, then 5 more.
+-- Assumes nothing.
+use Prim.Native.Nat.{ℕ, _*_}
+use mathlib.Core.List.{List}
+use Rattle.wire.specs.Bytes.{fromLow, field}
+use Rattle.block.specs.Sector.{sectorSize}
+
+unfoldable pub flashSectors : List ℕ → ℕ
+flashSectors info = fromLow (field 0 4 info)
+
+-- in bytes
+unfoldable pub flashSize : List ℕ → ℕ
+flashSize info = flashSectors info * sectorSize
+
+unfoldable pub blockSizeSectors : List ℕ → ℕ
+blockSizeSectors info = fromLow (field 4 2 info)

@@ -1,0 +1,22 @@
+// The storage reply: one bit of a 32-bit word, whose place is the index.
+use block::order::u32_from_le_bytes;
+use codes::StorageIndex;
+ghost use mathlib.Core.Path.{_≡_};
+ghost use Rattle.reply.specs.Media.{storageTold, readStorage};
+
+pub enum StorageAnswer {
+    Index(StorageIndex),
+    // 14: not exactly one bit set
+    ReplyParseFailure,
+}
+
+pub fn storage_index(reply: [u8; 4]) -> StorageAnswer
+    ensures { λ r. ⌜ storageTold r ≡ readStorage reply ⌝ }
+{
+    let word = u32_from_le_bytes(reply);
+    if u32::count_ones(word) != 1 {
+        return StorageAnswer::ReplyParseFailure;
+    }
+    let place = u32::trailing_zeros(word);
+    StorageAnswer::Index(StorageIndex::from_number(place as u8))
+}
