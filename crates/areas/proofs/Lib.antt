@@ -1,0 +1,7 @@
+-- `Search` has the laws of a search through a list, `Room` where a slot lies in its store, `Cases` the outcomes of an append,
+-- `Holdings` what callers cite: areas by their numbers. `Unique`: answers allowed by one contract are equal.
+pub mod Search
+pub mod Room
+pub mod Cases
+pub mod Holdings
+pub mod Unique

@@ -1,0 +1,14 @@
+-- Each slot lies inside its store, and no two slots share a byte.
+-- Assumes nothing.
+use Prim.Native.Nat.{ℕ, suc, _+_, _*_, _≤_, _<_}
+use mathlib.Core.Path.{_≡_, sym}
+use native.Mathlib.Nat.{mul-le-mul-right, suc-mul}
+use native.Mathlib.Omega.{arith}
+use Rattle.areas.specs.Slots.{slotCount, slotSize}
+
+-- a slot ends where the next one starts, or before
+pub slot-end : (a b size : ℕ) → a < b → a * size + size ≤ b * size
+slot-end a b size h = omega (arith, suc-mul a size, mul-le-mul-right size h)
+
+pub slot-inside : (at n : ℕ) → at < slotCount → at * slotSize n + slotSize n ≤ n
+slot-inside at n h = omega (arith, slot-end at slotCount (slotSize n) h)

@@ -1,0 +1,41 @@
+-- What holds of every refusal and of the outcome holds of both together; and what is told is what the rules tell.
+-- Assumes nothing.
+use Prim.Native.Nat.{ℕ}
+use mathlib.Core.Path.{_≡_, refl}
+use mathlib.Core.Bool.{Bool, true, false}
+use mathlib.Core.List.{List, [], _∷_}
+use Rattle.wire.specs.Told.{Told, given, refused}
+use Rattle.wire.specs.Rules.{Rule, pick, unless}
+use Rattle.lent.specs.Outcome.{orRefuse}
+
+-- no rule of the list is broken
+abbrev pub Met : List Rule → Type 0
+Met [] = Unit
+Met (r ∷ rules) = (r .broken ≡ false) × Met rules
+
+pub by-test : {A : Type 0} (P : A → Type 0) (test : Bool) {a b : A} → (test ≡ true → P a) → (test ≡ false → P b) → P (pick test a b)
+by-test P true f g = f refl
+by-test P false f g = g refl
+
+-- by whether a test is passed
+pub on-test : {C : Type 0} (test : Bool) → (test ≡ true → C) → (test ≡ false → C) → C
+on-test true f g = f refl
+on-test false f g = g refl
+
+-- of the outcome it is only asked where every rule is met
+pub either-way : {A : Type 0} (P : A → Type 0) (refuse : ℕ → List ℕ → A) (rules : List Rule) (done : A)
+    → ((n : ℕ) (values : List ℕ) → P (refuse n values)) → (Met rules → P done) → P (orRefuse refuse rules done)
+unfolding orRefuse
+either-way P refuse [] done f g = g tt
+either-way P refuse (r ∷ rules) done f g =
+    by-test P (r .broken) (λ e. f (r .number) (r .values)) (λ e. either-way P refuse rules done f (λ met. g (e, met)))
+
+pub tells-as : {A B : Type 0} (told : A → Told B) (refuse : ℕ → List ℕ → A)
+    → ((n : ℕ) (values : List ℕ) → told (refuse n values) ≡ refused n values)
+    → (rules : List Rule) (done : A) → told (orRefuse refuse rules done) ≡ unless rules (told done)
+unfolding orRefuse unless
+tells-as told refuse h [] done = refl
+tells-as told refuse h (r ∷ rules) done =
+    by-test (λ t. told t ≡ pick (r .broken) (refused (r .number) (r .values)) (unless rules (told done))) (r .broken)
+    (λ e. rw e (h (r .number) (r .values)))
+    (λ e. rw e (tells-as told refuse h rules done))
