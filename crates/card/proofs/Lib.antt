@@ -1,0 +1,2 @@
+-- `Unique`: two answers that one contract allows are equal.
+pub mod Unique

@@ -1,0 +1,16 @@
+-- The check of the first 510 bytes is the definition.
+-- Assumes nothing.
+use mathlib.Core.Path.{sym}
+use native.Mathlib.Omega.{arith}
+use lib.ListN.{length-take}
+use borrow.Author.Needs.{needs}
+use Rattle.card.specs.Block.{blockCheck}
+use Rattle.card.proofs.block_check.Statement.{statement}
+use Rattle.card.proofs.block_check.Tie as tie
+
+returns : tie.Need-returns
+unfolding blockCheck
+returns c = c .checksum .ensures
+
+pub block-check-spec : {M : Type 1} → statement M
+block-check-spec = tie.close (tie.spec (λ c. simp length-take (omega arith)) (λ c κs. search needs) returns)
