@@ -1,0 +1,102 @@
+-- What holds at every record, also at those that no fresh start makes: the finish repeats for ever, and no call writes past the first 4,096 output bytes.
+-- Assumes nothing.
+use Prim.Native.Nat.{ℕ, zero, suc, _+_, _-_, _/_, _%_, _<_, _≤_}
+use mathlib.Core.Path.{_≡_, refl, ap, ap₂, sym, subst, _∙_}
+use mathlib.Core.Bool.{Bool, true, false, not}
+use mathlib.Core.List.{List, [], _∷_, _++_}
+use native.Mathlib.Nat.{add-zero}
+use native.Mathlib.Omega.{arith}
+use native.Mathlib.Decide.{ℕ-discrete}
+use lib.ListN.{length, take, drop, length-append, length-take}
+use lib.Dec.{eqb, ltb}
+use Rattle.wire.specs.Told.{Told, given, refused}
+use Rattle.wire.specs.Rules.{Rule, rule, unless, pick}
+use Rattle.maskrom.specs.declared.MaskRomSteps.{MaskRomSteps}
+use Rattle.maskrom.specs.declared.MaskRomSteps.the-variants.{Writing, Check, Dummy, Done}
+use Rattle.maskrom.specs.declared.MaskRomOperation.{MaskRomOperation}
+use Rattle.maskrom.specs.declared.WholeUpload.{WholeUpload}
+use Rattle.maskrom.specs.Upload.{blockSize, longest}
+use Rattle.maskrom.specs.Moves.{Moves, moves, register, writing, movesAt}
+use Rattle.maskrom.specs.Does.{Does, does, said, sent, after}
+use Rattle.maskrom.specs.Answers.{tooShort, tooLong, closedAlready, differs, control, took, filled, finish}
+use Rattle.maskrom.specs.PartWise.{waiting, held, closed, holding, takes, partStep, asks, withMoved, closes, closeStep}
+use Rattle.maskrom.specs.Whole.{most, chunk, sentOn, sendsOn, wholeStep}
+use Rattle.maskrom.proofs.Cases.{writing-block, writing-pad, writing-dummy, writing-last, most-block}
+use Rattle.upload.proofs.Closing.{close-goes}
+use Rattle.upload.proofs.WholeImage.{whole-goes}
+use Rattle.upload.proofs.Ending.{length-check, register-empty}
+
+-- a record that is done finishes, and is left as it was: it finishes again, for ever
+pub close-repeats : (m : MaskRomOperation) (room : ℕ) → m .steps ≡ Done → blockSize ≤ room → closeStep m room ≡ given (does finish [] m)
+unfolding asks movesAt
+close-repeats m room e h =
+    close-goes m Done (moves [] (m .crc) Done) e refl room h ∙ ap (λ (s : MaskRomSteps). given (does finish [] (withMoved m (m .crc) s))) (sym e)
+
+abbrev reached : WholeUpload → ℕ → MaskRomSteps → WholeUpload
+reached u n s = record { area = u .area; checked = u .checked; length = u .length; taken = n; crc = u .crc; steps = s }
+
+pub whole-repeats : (u : WholeUpload) (image : List ℕ) (room : ℕ) → u .steps ≡ Done → length image ≡ u .length → blockSize ≤ room
+    → wholeStep u image room ≡ given (does finish [] u)
+unfolding asks movesAt most
+whole-repeats u image room e l h =
+    whole-goes image u Done [] (u .crc) (moves [] (u .crc) Done) l e refl (register-empty (u .checked) (u .crc)) refl room h
+    ∙ ap₂ (λ (n : ℕ) (s : MaskRomSteps). given (does finish [] (reached u n s))) (add-zero (u .taken)) (sym e)
+
+-- at most a block is written: by a step of which every branch writes no more
+few-pick : {A R : Type 0} (b : Bool) (x y : Told (Does A R)) → length (sent x) ≤ 4096 → length (sent y) ≤ 4096 → length (sent (pick b x y)) ≤ 4096
+few-pick true x y h k = h
+few-pick false x y h k = k
+
+few-unless : {A R : Type 0} (rules : List Rule) (d : Does A R) → length (d .sends) ≤ 4096 → length (sent (unless rules (given d))) ≤ 4096
+unfolding unless sent
+few-unless [] d h = h
+few-unless (r ∷ rs) d h = few-pick (r .broken) (refused (r .number) (r .values)) (unless rs (given d)) (omega arith) (few-unless rs d h)
+
+few-writing : (checked : Bool) (crc : ℕ) (w : List ℕ) → Dec (length w ≡ 4096) → Dec (length w ≡ 4095) → Dec (length w ≡ 4094) → length w ≤ 4096
+    → length (writing checked crc w .bytes) ≤ 4096
+few-writing checked crc w (yes e) d f h = rw (writing-block checked crc w e) h
+few-writing checked crc w (no n) (yes e) f h = rw (writing-pad checked crc w e) (simp length-append (omega arith))
+few-writing checked crc w (no n) (no m) (yes e) h = rw (writing-dummy checked crc w e) (simp length-append (omega (arith, length-check checked crc)))
+few-writing checked crc w (no n) (no m) (no e) h =
+    let l : length w < 4094 = omega arith in
+    rw (writing-last checked crc w l) (simp length-append (omega (arith, length-check checked crc)))
+
+few-moves : (s : MaskRomSteps) (checked : Bool) (crc : ℕ) (w : List ℕ) → length w ≤ 4096 → length (movesAt s checked crc w .bytes) ≤ 4096
+unfolding movesAt
+few-moves Writing checked crc w h = few-writing checked crc w (ℕ-discrete (length w) 4096) (ℕ-discrete (length w) 4095) (ℕ-discrete (length w) 4094) h
+few-moves Check checked crc w h = omega (arith, length-check checked crc)
+few-moves Dummy checked crc w h = omega arith
+few-moves Done checked crc w h = omega arith
+
+few-taken : {A R : Type 0} (b : Bool) (x y : Does A R) → length (x .sends) ≤ 4096 → length (y .sends) ≤ 4096 → length (pick b x y .sends) ≤ 4096
+few-taken true x y h k = h
+few-taken false x y h k = k
+
+pub part-writes : (m : MaskRomOperation) (part : List ℕ) (room : ℕ) → length (sent (partStep m part room)) ≤ blockSize
+unfolding partStep takes
+part-writes m part room =
+    let ys = take (4096 - waiting m) part in
+    let h : length (held m ++ ys) ≤ 4096 = simp (length-append, length-take) (omega arith) in
+    few-unless
+    (rule (ltb room blockSize) tooShort []
+    ∷ rule (closed (m .steps)) closedAlready []
+    ∷ rule (ltb longest (m .taken + length part)) tooLong []
+    ∷ [])
+    (takes m ys)
+    (few-taken (eqb (waiting m + length ys) blockSize)
+    (does (filled (length ys) (control (m .area) blockSize)) (held m ++ ys) (holding m ys)) (does (took (length ys)) [] (holding m ys)) h (omega arith))
+
+pub close-writes : (m : MaskRomOperation) (room : ℕ) → length (sent (closeStep m room)) ≤ blockSize
+unfolding closeStep closes
+close-writes m room =
+    let w : length (held m) ≤ 4096 = simp length-take (omega arith) in
+    few-unless (rule (ltb room blockSize) tooShort [] ∷ []) (closes m (movesAt (m .steps) (m .checked) (m .crc) (held m)))
+    (few-moves (m .steps) (m .checked) (m .crc) (held m) w)
+
+pub whole-writes : (u : WholeUpload) (image : List ℕ) (room : ℕ) → length (sent (wholeStep u image room)) ≤ blockSize
+unfolding wholeStep sendsOn
+whole-writes u image room =
+    let w = chunk u image in
+    let h : length w ≤ 4096 = simp length-take (omega (arith, most-block (u .steps))) in
+    few-unless (rule (ltb room blockSize) tooShort [] ∷ rule (not (eqb (length image) (u .length))) differs [] ∷ []) (sendsOn u w)
+    (few-moves (u .steps) (u .checked) (register (u .checked) (u .crc) w) w h)
