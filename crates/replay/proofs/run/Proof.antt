@@ -1,0 +1,23 @@
+-- The turns are counted down from a number that no run uses up; every buffer keeps its length.
+-- Assumes nothing.
+use mathlib.Core.Path.{_≡_}
+use lib.ListN.{length}
+use borrow.Author.Needs.{needs}
+use Rattle.replay.proofs.run.Statement.{statement}
+use Rattle.replay.proofs.run.Tie as tie
+
+abbrev Inv-loop : tie.InvT-loop
+Inv-loop block₀ line₀ out₀ data₀ room₀ at₀ input₀ turns₀ block line out «data» room at input turns =
+    (length block ≡ length block₀) × (length line ≡ length line₀) × (length out ≡ length out₀)
+    × (length «data» ≡ length data₀) × (length room ≡ length room₀)
+
+abbrev μ-loop : tie.MeasureT-loop
+μ-loop block₀ line₀ out₀ data₀ room₀ at₀ input₀ turns₀ block line out «data» room at input turns = turns
+
+pub run-spec : {M : Type 1} → statement M
+run-spec =
+    tie.close
+    (tie.spec Inv-loop μ-loop (λ c κs. search needs) (λ c κs. search needs) (λ c. search needs) (λ c κs. search needs)
+    (λ c κs. search needs) (λ c κs. search needs) (λ c. search needs) (λ c. search needs) (λ c. search needs)
+    (λ c κs. search needs) (λ c. search needs) (λ c. search needs) (λ c. search needs) (λ c. search needs)
+    (λ c. search needs) (λ c. search needs))

@@ -1,0 +1,66 @@
+// The names of calls and operations, three letters as one number, and the group of calls that a name belongs to.
+
+// numbers
+pub(crate) const DIR: u64 = 0x646972;
+
+pub(crate) const COD: u64 = 0x636f64;
+
+pub(crate) const STA: u64 = 0x737461;
+
+pub(crate) const IDX: u64 = 0x696478;
+// blocks
+pub(crate) const CRD: u64 = 0x637264;
+
+pub(crate) const CWR: u64 = 0x637772;
+
+pub(crate) const CNV: u64 = 0x636e76;
+
+pub(crate) const SRD: u64 = 0x737264;
+
+pub(crate) const SWR: u64 = 0x737772;
+
+pub(crate) const SMP: u64 = 0x736d70;
+// replies, and the operations that bring them
+pub(crate) const CHP: u64 = 0x636870;
+
+pub(crate) const FID: u64 = 0x666964;
+
+pub(crate) const FIN: u64 = 0x66696e;
+
+pub(crate) const CAP: u64 = 0x636170;
+
+pub(crate) const STO: u64 = 0x73746f;
+
+pub(crate) const SEC: u64 = 0x736563;
+// the other operations; `rst` is a number's call too
+pub(crate) const ERA: u64 = 0x657261;
+
+pub(crate) const ERF: u64 = 0x657266;
+
+pub(crate) const RDL: u64 = 0x72646c;
+
+pub(crate) const WRL: u64 = 0x77726c;
+
+pub(crate) const RST: u64 = 0x727374;
+
+pub(crate) const SWI: u64 = 0x737769;
+
+pub(crate) enum Group {
+    Numbers,
+    Reads,
+    Writes,
+    Replies,
+    Size,
+    Nothing,
+}
+
+pub(crate) fn group_of(name: u64) -> Group {
+    match name {
+        DIR | COD | STA | RST | IDX => Group::Numbers,
+        CRD | SRD | SMP | STO => Group::Reads,
+        CWR | CNV | SWR => Group::Writes,
+        CHP | FID | FIN | CAP => Group::Replies,
+        SEC => Group::Size,
+        _ => Group::Nothing,
+    }
+}

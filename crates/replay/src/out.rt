@@ -1,0 +1,143 @@
+// Answers are written to a lent buffer, from a place on. What does not fit is left out, so that no caller owes anything: the
+// buffer has room for the longest answer whenever a line is answered.
+
+use crate::told::OUTSIDE;
+use crate::told::Told;
+ghost use Rattle.io.specs.Counts.{Counts};
+
+// `n`, or the slice's length where that is less: a count of its bytes, so that `&s[..n]` owes nothing.
+pub(crate) fn within(n: usize, s: &[u8]) -> usize
+    ensures { λ r. ⌜ Counts r (now (s .entry)) ⌝ }
+{
+    if n < s.len() { n } else { s.len() }
+}
+
+pub(crate) fn put(out: &mut [u8], at: usize, byte: u8) -> usize {
+    if at < out.len() {
+        out[at] = byte;
+        return at + 1;
+    }
+    at
+}
+
+pub(crate) fn text(out: &mut [u8], at: usize, bytes: &[u8]) -> usize {
+    let mut next = at;
+    for i in 0..bytes.len() {
+        next = put(out, next, bytes[i]);
+    }
+    next
+}
+
+pub(crate) fn decimal(out: &mut [u8], at: usize, number: u64) -> usize {
+    let mut digits = [0u8; 20];
+    let n = io::decimal(number, &mut digits);
+    text(out, at, &digits[..n])
+}
+
+// A number behind a space.
+pub(crate) fn value(out: &mut [u8], at: usize, number: u64) -> usize {
+    let next = put(out, at, b' ');
+    decimal(out, next, number)
+}
+
+fn digit(nibble: u8) -> u8 {
+    if nibble < 10 {
+        return 48 + nibble;
+    }
+    if nibble < 16 {
+        return 87 + nibble;
+    }
+    b'?'
+}
+
+fn hex_byte(out: &mut [u8], at: usize, byte: u8) -> usize {
+    let next = put(out, at, digit(byte / 16));
+    put(out, next, digit(byte % 16))
+}
+
+fn hex(out: &mut [u8], at: usize, bytes: &[u8]) -> usize {
+    let mut next = at;
+    for i in 0..bytes.len() {
+        next = hex_byte(out, next, bytes[i]);
+    }
+    next
+}
+
+fn digest_step(h: u32, byte: u8) -> u32 {
+    ((h as u64 * 16777619 + byte as u64 + 1) % 4294967291) as u32
+}
+
+fn digest(bytes: &[u8]) -> u32 {
+    let mut h = 1;
+    for i in 0..bytes.len() {
+        h = digest_step(h, bytes[i]);
+    }
+    h
+}
+
+fn digest_text(out: &mut [u8], at: usize, bytes: &[u8]) -> usize {
+    let mut digits = [0u8; 16];
+    let n = io::hex(digest(bytes) as u64, 8, &mut digits);
+    text(out, at, &digits[..n])
+}
+
+// The language's BYTES: spelled out up to 64, a digest above.
+pub(crate) fn bytes(out: &mut [u8], at: usize, bytes: &[u8]) -> usize {
+    let next = decimal(out, at, bytes.len() as u64);
+    if bytes.len() <= 64 {
+        let next = put(out, next, b':');
+        return hex(out, next, bytes);
+    }
+    let next = put(out, next, b'#');
+    digest_text(out, next, bytes)
+}
+
+pub(crate) fn first_bytes(out: &mut [u8], at: usize, buffer: &[u8], n: usize) -> usize {
+    let n = within(n, buffer);
+    bytes(out, at, &buffer[..n])
+}
+
+// The first `n` bytes of a buffer as a section.
+pub(crate) fn section(out: &mut [u8], at: usize, buffer: &[u8], n: usize) -> usize {
+    let next = text(out, at, b" | ");
+    first_bytes(out, next, buffer, n)
+}
+
+fn listed(out: &mut [u8], at: usize, values: [u64; 9], count: usize) -> usize {
+    let mut next = at;
+    for i in 0..9 {
+        if i >= count {
+            break;
+        }
+        next = value(out, next, values[i]);
+    }
+    next
+}
+
+pub(crate) fn told(out: &mut [u8], at: usize, told: Told) -> usize {
+    if told.number == OUTSIDE {
+        return text(out, at, b"outside");
+    }
+    let next = decimal(out, at, told.number);
+    let values = told.values;
+    listed(out, next, values, told.count)
+}
+
+// What a call told, with a buffer's first `n` bytes as the last value.
+pub(crate) fn told_and(out: &mut [u8], at: usize, told: Told, buffer: &[u8], n: usize) -> usize {
+    let next = self::told(out, at, told);
+    if told.number != 0 {
+        return next;
+    }
+    let next = put(out, next, b' ');
+    first_bytes(out, next, buffer, n)
+}
+
+// What a call told, with a buffer's first `n` bytes as a section.
+pub(crate) fn told_with(out: &mut [u8], at: usize, told: Told, buffer: &[u8], n: usize) -> usize {
+    let next = self::told(out, at, told);
+    if told.number == OUTSIDE {
+        return next;
+    }
+    section(out, next, buffer, n)
+}
