@@ -1,0 +1,2 @@
+-- A run with a budget, over any turn.
+pub mod Run
