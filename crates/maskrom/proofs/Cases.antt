@@ -1,59 +1,30 @@
 -- One law for each branch of a definition.
 -- Assumes nothing.
 use Prim.Native.Nat.{ℕ, _+_, _-_, _<_, _≤_}
-use mathlib.Core.Path.{_≡_, refl, sym, subst}
+use mathlib.Core.Path.{_≡_, refl, ap, _∙_}
 use mathlib.Core.Bool.{Bool, true, false}
 use mathlib.Core.List.{List, [], _∷_, _++_}
-use lib.ListN.{length, take}
-use borrow.Author.Tests.{eq-eqb, ne-eqb, lt-ltb, le-ltb}
 use native.Mathlib.Omega.{arith}
+use lib.ListN.{length, take}
 use types.Run.{OneOf, miss}
 use denote.Enum.Declared.{tagOf}
-use Rattle.maskrom.proofs.MaskRomSteps.{the-type}
-use Rattle.maskrom.specs.declared.transfer.Moved.{Moved}
+use borrow.Author.Tests.{eq-eqb, ne-eqb, lt-ltb, le-ltb}
+use Rattle.wire.specs.Told.{Told, given, refused, andThen}
+use Rattle.wire.specs.Rules.{unless}
+use Rattle.transfer.proofs.MaskRomSteps.{the-type}
+use Rattle.transfer.specs.declared.MaskRomSteps.{MaskRomSteps}
+use Rattle.transfer.specs.declared.MaskRomSteps.the-variants.{Writing, Check, Dummy, Done}
+use Rattle.transfer.specs.declared.Moved.{Moved}
+use Rattle.transfer.specs.Upload.{longest}
+use Rattle.transfer.specs.Moves.{Moves, register, movesAt}
+use Rattle.transfer.specs.Does.{Does, does}
+use Rattle.transfer.specs.Sending.{tooShort, sendStep}
+use Rattle.transfer.proofs.Cases.{send-20, send-acts}
 use Rattle.maskrom.specs.declared.MaskRomOperation.{MaskRomOperation}
 use Rattle.maskrom.specs.declared.WholeUpload.{WholeUpload}
-use Rattle.maskrom.specs.declared.MaskRomSteps.{MaskRomSteps}
-use Rattle.maskrom.specs.declared.MaskRomSteps.the-variants.{Writing, Check, Dummy, Done}
-use Rattle.wire.specs.Told.{Told, given, refused}
-use Rattle.wire.specs.Rules.{unless}
-use Rattle.wire.specs.Bytes.{front}
-use Rattle.maskrom.specs.Upload.{longest, checkBytes}
-use Rattle.maskrom.specs.Does.{Does, does, said, sent, after, Meets}
-use Rattle.maskrom.specs.Moves.{register, moves, writing, movesAt, SendMeets}
-use Rattle.maskrom.specs.Answers.{tooShort, tooLong, closedAlready, differs, control, took, filled, writes}
-use Rattle.maskrom.specs.PartWise.{waiting, held, closed, holding, takes, partStep, asks, closes, closeStep}
-use Rattle.maskrom.specs.Whole.{most, chunk, sendsOn, wholeStep}
-
-module _ (checked : Bool) (crc : ℕ) (w : List ℕ) where
-  pub writing-block : length w ≡ 4096 → writing checked crc w ≡ moves w crc Writing
-  unfolding writing
-  writing-block e = rw (eq-eqb (length w) 4096 e)
-
-  pub writing-pad : length w ≡ 4095 → writing checked crc w ≡ moves (w ++ (0 ∷ [])) (register checked crc (0 ∷ [])) Check
-  unfolding writing
-  writing-pad e = rw (ne-eqb (length w) 4096 (omega arith), eq-eqb (length w) 4095 e)
-
-  pub writing-dummy : length w ≡ 4094 → writing checked crc w ≡ moves (w ++ checkBytes checked crc) crc Dummy
-  unfolding writing
-  writing-dummy e =
-      rw (ne-eqb (length w) 4096 (omega arith), ne-eqb (length w) 4095 (omega arith), eq-eqb (length w) 4094 e)
-
-  pub writing-last : length w < 4094 → writing checked crc w ≡ moves (w ++ checkBytes checked crc) crc Done
-  unfolding writing
-  writing-last h =
-      rw (ne-eqb (length w) 4096 (omega arith), ne-eqb (length w) 4095 (omega arith), ne-eqb (length w) 4094 (omega arith))
-
--- bytes put at the front are the step's, where they are the step's bytes
-pub meets : (size crc crc′ : ℕ) (steps : MaskRomSteps) (bs bs′ old new : List ℕ) → (size ≡ length bs) × (new ≡ front bs old) → bs ≡ bs′
-    → crc ≡ crc′ → SendMeets (record { size = size; crc = crc; steps = steps }) old new (moves bs′ crc′ steps)
-meets size crc crc′ steps bs bs′ old new h e k =
-    subst (λ (l : List ℕ). SendMeets (record { size = size; crc = crc; steps = steps }) old new (moves l crc′ steps)) e
-    (record { size = h .0; crc = k; steps = refl; leaves = h .1 })
-
-pub at-steps : (r : Moved) (old new : List ℕ) (checked : Bool) (crc : ℕ) (w : List ℕ) {x y : MaskRomSteps} → x ≡ y
-    → SendMeets r old new (movesAt y checked crc w) → SendMeets r old new (movesAt x checked crc w)
-at-steps r old new checked crc w e = subst (λ (x : MaskRomSteps). SendMeets r old new (movesAt x checked crc w)) (sym e)
+use Rattle.maskrom.specs.Answers.{tooLong, closedAlready, differs, control, took, filled, writes}
+use Rattle.maskrom.specs.PartWise.{waiting, held, closed, holding, takes, partStep, asks, withMoved, closes, closeStep}
+use Rattle.maskrom.specs.Whole.{most, chunk, sentOn, sendsOn, wholeStep}
 
 -- what an arm of a `match` knows of the enum: its variant is one of these
 pub asks-write : (steps : MaskRomSteps) (area n : ℕ) → OneOf (0 ∷ 1 ∷ 2 ∷ []) (tagOf the-type steps)
@@ -85,17 +56,6 @@ most-block Check = omega arith
 most-block Dummy = omega arith
 most-block Done = omega arith
 
--- a promise, from the branch that its definition takes
-pub keeps : {A R : Type 0} {told : Told A} {back self : R} {old new : List ℕ} {step : Told (Does A R)} (n : ℕ)
-    → step ≡ refused n [] → told ≡ refused n [] → back ≡ self → new ≡ old → Meets told back old new self step
-unfolding said sent after
-keeps n e t b o = rw e (record { tells = t; next = b; leaves = o })
-
-pub acts : {A R : Type 0} {told : Told A} {back self : R} {old new : List ℕ} {step : Told (Does A R)} (d : Does A R)
-    → step ≡ given d → told ≡ given (d .says) → back ≡ d .becomes → new ≡ front (d .sends) old → Meets told back old new self step
-unfolding said sent after
-acts d e t b o = rw e (record { tells = t; next = b; leaves = o })
-
 module _ (m : MaskRomOperation) (xs : List ℕ) (room : ℕ) where
   pub part-20 : room < 4096 → partStep m xs room ≡ refused tooShort []
   unfolding partStep unless
@@ -124,14 +84,11 @@ module _ (m : MaskRomOperation) (ys : List ℕ) where
   unfolding takes
   takes-some h = rw (ne-eqb (waiting m + length ys) 4096 (omega arith))
 
-module _ (m : MaskRomOperation) (room : ℕ) where
-  pub close-20 : room < 4096 → closeStep m room ≡ refused tooShort []
-  unfolding closeStep unless
-  close-20 h = rw (lt-ltb room 4096 h)
-
-  pub close-acts : 4096 ≤ room → closeStep m room ≡ given (closes m (movesAt (m .steps) (m .checked) (m .crc) (held m)))
-  unfolding closeStep unless
-  close-acts h = rw (le-ltb room 4096 h)
+pub close-acts : (m : MaskRomOperation) (room : ℕ) → 4096 ≤ room
+    → let to = movesAt (m .steps) (m .checked) (m .crc) (held m) in
+    closeStep m room ≡ given (does (asks (m .steps) (m .area) (length (to .bytes))) (to .bytes) (withMoved m (to .crc) (to .steps)))
+unfolding closeStep andThen
+close-acts m room h = rw (send-acts (m .steps) (m .checked) (m .crc) (held m) room h)
 
 module _ (u : WholeUpload) (image : List ℕ) (room : ℕ) where
   pub whole-20 : room < 4096 → wholeStep u image room ≡ refused tooShort []
@@ -142,7 +99,12 @@ module _ (u : WholeUpload) (image : List ℕ) (room : ℕ) where
   unfolding wholeStep unless
   whole-27 h e = rw (le-ltb room 4096 h, ne-eqb (length image) (u .length) e)
 
-  pub whole-acts : 4096 ≤ room → length image ≡ u .length
-      → wholeStep u image room ≡ given (sendsOn u (chunk u image))
+  pub whole-sends : 4096 ≤ room → length image ≡ u .length → wholeStep u image room ≡ sendsOn u (chunk u image) room
   unfolding wholeStep unless
-  whole-acts h e = rw (le-ltb room 4096 h, eq-eqb (length image) (u .length) e)
+  whole-sends h e = rw (le-ltb room 4096 h, eq-eqb (length image) (u .length) e)
+
+pub sends-acts : (u : WholeUpload) (w : List ℕ) (room : ℕ) → 4096 ≤ room
+    → let to = movesAt (u .steps) (u .checked) (register (u .checked) (u .crc) w) w in
+    sendsOn u w room ≡ given (does (asks (u .steps) (u .area) (length (to .bytes))) (to .bytes) (sentOn u (length w) (to .crc) (to .steps)))
+unfolding sendsOn andThen
+sends-acts u w room h = rw (send-acts (u .steps) (u .checked) (register (u .checked) (u .crc) w) w room h)

@@ -3,6 +3,7 @@
 use Prim.Native.Nat.{ℕ}
 use mathlib.Core.List.{List, []}
 use Rattle.wire.specs.Told.{Told, given, refused}
+use Rattle.transfer.specs.Sending.{tooShort}
 use Rattle.maskrom.specs.declared.Control.{Control}
 use Rattle.maskrom.specs.declared.PartStep.{PartStep}
 use Rattle.maskrom.specs.declared.PartStep.the-variants as part
@@ -11,10 +12,7 @@ use Rattle.maskrom.specs.declared.UploadStep.the-variants as upload
 use Rattle.maskrom.specs.declared.UploadStart.{UploadStart}
 use Rattle.maskrom.specs.declared.UploadStart.the-variants as start
 
--- output too short, image too long, already closed, lent data differs
-abbrev pub tooShort : ℕ
-tooShort = 20
-
+-- image too long, already closed, lent data differs
 abbrev pub tooLong : ℕ
 tooLong = 25
 

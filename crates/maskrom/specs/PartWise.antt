@@ -5,20 +5,22 @@ use mathlib.Core.Bool.{Bool, true, false}
 use mathlib.Core.List.{List, [], _∷_, _++_}
 use lib.ListN.{length, take, drop, replicate}
 use lib.Dec.{eqb, ltb}
-use Rattle.wire.specs.Told.{Told, given}
+use Rattle.wire.specs.Told.{Told, given, andThen}
 use Rattle.wire.specs.Rules.{pick, rule, unless}
 use Rattle.crc.specs.Check.{start}
-use Rattle.maskrom.specs.declared.MaskRomSteps.{MaskRomSteps}
-use Rattle.maskrom.specs.declared.MaskRomSteps.the-variants.{Writing, Check, Dummy, Done}
+use Rattle.transfer.specs.declared.MaskRomSteps.{MaskRomSteps}
+use Rattle.transfer.specs.declared.MaskRomSteps.the-variants.{Writing, Check, Dummy, Done}
 use Rattle.maskrom.specs.declared.MaskRomOperation.{MaskRomOperation}
 use Rattle.maskrom.specs.declared.PartStep.{PartStep}
 use Rattle.maskrom.specs.declared.PartStepped.{PartStepped}
 use Rattle.maskrom.specs.declared.UploadStep.{UploadStep}
 use Rattle.maskrom.specs.declared.CloseStepped.{CloseStepped}
-use Rattle.maskrom.specs.Upload.{blockSize, longest}
-use Rattle.maskrom.specs.Moves.{Moves, register, movesAt}
-use Rattle.maskrom.specs.Does.{Does, does}
-use Rattle.maskrom.specs.Answers.{tooShort, tooLong, closedAlready, control, Handed, took, filled, Asks, writes, finish}
+use Rattle.transfer.specs.declared.Moved.{Moved}
+use Rattle.transfer.specs.Upload.{blockSize, longest}
+use Rattle.transfer.specs.Moves.{register}
+use Rattle.transfer.specs.Does.{Does, does}
+use Rattle.transfer.specs.Sending.{tooShort, sendStep}
+use Rattle.maskrom.specs.Answers.{tooLong, closedAlready, control, Handed, took, filled, Asks, writes, finish}
 
 abbrev pub fresh : ℕ → Bool → MaskRomOperation
 fresh area checked = record {
@@ -105,12 +107,12 @@ withMoved m crc steps = record {
 abbrev pub closedWith : UploadStep → MaskRomOperation → CloseStepped
 closedWith step m = record { step = step; next = m }
 
-unfoldable pub closes : MaskRomOperation → Moves → Does Asks MaskRomOperation
-closes m to = does (asks (m .steps) (m .area) (length (to .bytes))) (to .bytes) (withMoved m (to .crc) (to .steps))
+-- what the transfer comes to in this record
+abbrev pub closes : MaskRomOperation → Does Moved Unit → Does Asks MaskRomOperation
+closes m d =
+    does (asks (m .steps) (m .area) (d .says .size)) (d .sends) (withMoved m (d .says .crc) (d .says .steps))
 
--- "The first closing step shuts the image"; "closing 20"
+-- "The first closing step shuts the image": from then on nothing but its next transfer comes; "closing 20"
 unfoldable pub closeStep : MaskRomOperation → ℕ → Told (Does Asks MaskRomOperation)
 closeStep m room =
-    unless
-    (rule (ltb room blockSize) tooShort [] ∷ [])
-    (given (closes m (movesAt (m .steps) (m .checked) (m .crc) (held m))))
+    andThen (sendStep (m .steps) (m .checked) (m .crc) (held m) room) (λ (d : Does Moved Unit). given (closes m d))

@@ -6,19 +6,21 @@ use mathlib.Core.Path.{_≡_}
 use mathlib.Core.List.{List, [], _∷_}
 use lib.ListN.{length, take, drop}
 use lib.Dec.{eqb, ltb}
-use Rattle.wire.specs.Told.{Told, given}
+use Rattle.wire.specs.Told.{Told, given, andThen}
 use Rattle.wire.specs.Rules.{rule, unless}
 use Rattle.crc.specs.Check.{start}
-use Rattle.maskrom.specs.declared.MaskRomSteps.{MaskRomSteps}
-use Rattle.maskrom.specs.declared.MaskRomSteps.the-variants.{Writing, Check, Dummy, Done}
+use Rattle.transfer.specs.declared.MaskRomSteps.{MaskRomSteps}
+use Rattle.transfer.specs.declared.MaskRomSteps.the-variants.{Writing, Check, Dummy, Done}
 use Rattle.maskrom.specs.declared.WholeUpload.{WholeUpload}
 use Rattle.maskrom.specs.declared.WholeStart.{WholeStart}
 use Rattle.maskrom.specs.declared.UploadStep.{UploadStep}
 use Rattle.maskrom.specs.declared.WholeStepped.{WholeStepped}
-use Rattle.maskrom.specs.Upload.{blockSize, longest}
-use Rattle.maskrom.specs.Moves.{Moves, register, movesAt}
-use Rattle.maskrom.specs.Does.{Does, does, said, after}
-use Rattle.maskrom.specs.Answers.{tooShort, tooLong, differs, startTold, Asks}
+use Rattle.transfer.specs.declared.Moved.{Moved}
+use Rattle.transfer.specs.Upload.{blockSize, longest}
+use Rattle.transfer.specs.Moves.{register}
+use Rattle.transfer.specs.Does.{Does, does, said, after}
+use Rattle.transfer.specs.Sending.{tooShort, sendStep}
+use Rattle.maskrom.specs.Answers.{tooLong, differs, startTold, Asks}
 use Rattle.maskrom.specs.PartWise.{asks}
 
 abbrev pub freshWhole : ℕ → Bool → ℕ → WholeUpload
@@ -64,14 +66,17 @@ sentOn u n crc steps = record {
 abbrev pub steppedWith : UploadStep → WholeUpload → WholeStepped
 steppedWith step u = record { step = step; next = u }
 
-unfoldable pub sendsOn : WholeUpload → List ℕ → Does Asks WholeUpload
-sendsOn u w =
-    let to = movesAt (u .steps) (u .checked) (register (u .checked) (u .crc) w) w in
-    does (asks (u .steps) (u .area) (length (to .bytes))) (to .bytes) (sentOn u (length w) (to .crc) (to .steps))
+-- the next transfer, of these bytes of the image
+unfoldable pub sendsOn : WholeUpload → List ℕ → ℕ → Told (Does Asks WholeUpload)
+sendsOn u w room =
+    andThen (sendStep (u .steps) (u .checked) (register (u .checked) (u .crc) w) w room)
+    (λ (d : Does Moved Unit).
+    given
+    (does (asks (u .steps) (u .area) (d .says .size)) (d .sends) (sentOn u (length w) (d .says .crc) (d .says .steps))))
 
 -- "Each step, finish included: .. whole 20, then 27"
 unfoldable pub wholeStep : WholeUpload → List ℕ → ℕ → Told (Does Asks WholeUpload)
 wholeStep u image room =
     unless
     (rule (ltb room blockSize) tooShort [] ∷ rule (not (eqb (length image) (u .length))) differs [] ∷ [])
-    (given (sendsOn u (chunk u image)))
+    (sendsOn u (chunk u image) room)

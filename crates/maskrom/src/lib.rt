@@ -2,21 +2,17 @@
 // every step (`write_area`, `WholeUpload`).
 ghost use mathlib.Core.Path.{_≡_};
 ghost use mathlib.Core.Bool.{true, false};
-ghost use mathlib.Core.List.{[], _∷_, _++_};
+ghost use mathlib.Core.List.{[], _∷_};
 ghost use Prim.Native.Nat.{_+_, _≤_, min};
 ghost use lib.ListN.{length, take};
 ghost use Rattle.wire.specs.Told.{given};
-ghost use Rattle.wire.specs.Bytes.{front, highFirst};
-ghost use Rattle.maskrom.specs.Upload.{checkBytes};
-ghost use Rattle.maskrom.specs.Moves.{register, writing, movesAt, SendMeets};
-ghost use Rattle.maskrom.specs.Does.{Meets};
+ghost use Rattle.transfer.specs.Does.{Meets};
 ghost use Rattle.maskrom.specs.Answers.{control, partTold, stepTold};
 ghost use Rattle.maskrom.specs.PartWise.{fresh, waiting, withBlock, holding, parted, partStep, asks, withMoved, closedWith, closeStep};
 ghost use Rattle.maskrom.specs.Whole.{freshWhole, StartMeets, most, sentOn, steppedWith, sendsOn, wholeStep};
-
-mod transfer;
-
+use transfer::MaskRomSteps;
 use transfer::Moved;
+use transfer::Sent;
 
 const BLOCK: usize = 4096;
 
@@ -31,14 +27,6 @@ pub struct Control {
     pub value: u16,
     pub index: u16,
     pub size: usize,
-}
-
-// Where an upload stands: the image goes on, its check is left, the last zero is left, nothing is left.
-pub enum MaskRomSteps {
-    Writing,
-    Check,
-    Dummy,
-    Done,
 }
 
 pub enum PartStep {
@@ -101,6 +89,34 @@ pub struct WholeStart {
 pub struct WholeStepped {
     pub step: UploadStep,
     pub next: WholeUpload,
+}
+
+fn least(a: usize, b: usize) -> usize
+    ensures { λ r. ⌜ r ≡ min a b ⌝ }
+{
+    if a < b { a } else { b }
+}
+
+fn control_of(area: u16, size: usize) -> Control
+    ensures { λ r. ⌜ r ≡ control area size ⌝ }
+{
+    Control {
+        request_type: 0x40,
+        request: 0xc,
+        value: 0,
+        index: area,
+        size,
+    }
+}
+
+// What is asked of the transport: a control write, or nothing any more.
+fn asked(steps: MaskRomSteps, area: u16, size: usize) -> UploadStep
+    ensures { λ r. ⌜ stepTold r ≡ given (asks steps area size) ⌝ }
+{
+    match steps {
+        MaskRomSteps::Done => UploadStep::Finished,
+        _ => UploadStep::WriteControl(control_of(area, size)),
+    }
 }
 
 fn new_operation(area: u16, checked: bool) -> MaskRomOperation
@@ -178,14 +194,14 @@ impl MaskRomOperation {
             return self.after_part(PartStep::ImageTooLong);
         }
         let at = taken % BLOCK;
-        let n = transfer::least(BLOCK - at, part.len());
+        let n = least(BLOCK - at, part.len());
         let next = self.hold(&part[..n]);
         if at + n < BLOCK {
             return next.after_part(PartStep::Taken(n));
         }
         let block = next.block;
-        let size = transfer::put(block, BLOCK, out);
-        next.after_part(PartStep::WriteControl(n, transfer::control_of(self.area, size)))
+        let size = bytes::copy(&block, out);
+        next.after_part(PartStep::WriteControl(n, control_of(self.area, size)))
     }
 
     fn moved_to(self, to: Moved) -> MaskRomOperation
@@ -213,14 +229,14 @@ impl MaskRomOperation {
     pub fn close(self, out: &mut [u8]) -> CloseStepped
         ensures { λ r. ⌜ Meets (stepTold (r .step)) (r .next) (now (out .entry)) (now (out .exit)) self (closeStep self (length (now (out .entry)))) ⌝ }
     {
-        if out.len() < BLOCK {
-            return self.after_close(UploadStep::OutputTooShort);
-        }
         let n = (self.taken % 4096) as usize;
         let steps = self.steps;
         let block = self.block;
-        let to = transfer::send(steps, self.checked, self.crc, block, n, out);
-        let step = transfer::asked(steps, self.area, to.size);
+        let sent = transfer::send(steps, self.checked, self.crc, block, n, out);
+        let Sent::Moved(to) = sent else {
+            return self.after_close(UploadStep::OutputTooShort);
+        };
+        let step = asked(steps, self.area, to.size);
         self.moved_to(to).after_close(step)
     }
 }
@@ -275,9 +291,19 @@ fn chunk_size(steps: MaskRomSteps, left: usize) -> usize
     ensures { λ r. ⌜ r ≡ min (most steps) left ⌝ }
 {
     match steps {
-        MaskRomSteps::Writing => transfer::least(BLOCK, left),
+        MaskRomSteps::Writing => least(BLOCK, left),
         _ => 0,
     }
+}
+
+// The bytes at the front of a block of zeros.
+fn block_of(bytes: &[u8]) -> [u8; 4096]
+    requires { ⌜ length (now bytes) ≤ 4096 ⌝ }
+    ensures { λ r. ⌜ take (length (now (bytes .entry))) r ≡ now (bytes .entry) ⌝ }
+{
+    let mut block = [0u8; 4096];
+    bytes::copy(bytes, &mut block);
+    block
 }
 
 impl WholeUpload {
@@ -303,15 +329,18 @@ impl WholeUpload {
     }
 
     fn send_on(self, chunk: &[u8], out: &mut [u8]) -> WholeStepped
-        requires { ⌜ (length (now chunk) ≤ 4096) × (self .taken + length (now chunk) ≤ 4294967295) × (4096 ≤ length (now out)) ⌝ }
-        ensures { λ r. ⌜ Meets (stepTold (r .step)) (r .next) (now (out .entry)) (now (out .exit)) self (given (sendsOn self (now (chunk .entry)))) ⌝ }
+        requires { ⌜ (length (now chunk) ≤ 4096) × (self .taken + length (now chunk) ≤ 4294967295) ⌝ }
+        ensures { λ r. ⌜ Meets (stepTold (r .step)) (r .next) (now (out .entry)) (now (out .exit)) self (sendsOn self (now (chunk .entry)) (length (now (out .entry)))) ⌝ }
     {
         let n = chunk.len();
         let steps = self.steps;
         let crc = transfer::covered(self.checked, self.crc, chunk);
-        let block = transfer::block_of(chunk);
-        let to = transfer::send(steps, self.checked, crc, block, n, out);
-        let step = transfer::asked(steps, self.area, to.size);
+        let block = block_of(chunk);
+        let sent = transfer::send(steps, self.checked, crc, block, n, out);
+        let Sent::Moved(to) = sent else {
+            return self.after_step(UploadStep::OutputTooShort);
+        };
+        let step = asked(steps, self.area, to.size);
         self.moved_on(n, to).after_step(step)
     }
 
@@ -327,7 +356,7 @@ impl WholeUpload {
             return self.after_step(UploadStep::ImageDiffers);
         }
         let steps = self.steps;
-        let from = transfer::least(self.taken as usize, length);
+        let from = least(self.taken as usize, length);
         let end = from + chunk_size(steps, length - from);
         self.send_on(&image[from..end], out)
     }

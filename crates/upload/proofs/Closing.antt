@@ -9,15 +9,16 @@ use native.Mathlib.Decide.{decLt, ℕ-discrete}
 use lib.ListN.{length, take, length-append}
 use lib.Seq.{length-take-le}
 use Rattle.wire.specs.Told.{Told, given}
-use Rattle.maskrom.specs.declared.MaskRomSteps.{MaskRomSteps}
-use Rattle.maskrom.specs.declared.MaskRomSteps.the-variants.{Writing, Check, Dummy, Done}
+use Rattle.transfer.specs.declared.MaskRomSteps.{MaskRomSteps}
+use Rattle.transfer.specs.declared.MaskRomSteps.the-variants.{Writing, Check, Dummy, Done}
 use Rattle.maskrom.specs.declared.MaskRomOperation.{MaskRomOperation}
-use Rattle.maskrom.specs.Upload.{checkBytes, cut}
-use Rattle.maskrom.specs.Moves.{Moves, moves, register, writing, movesAt}
-use Rattle.maskrom.specs.Does.{Does, does}
+use Rattle.transfer.specs.Upload.{checkBytes, cut}
+use Rattle.transfer.specs.Moves.{Moves, moves, register, writing, movesAt}
+use Rattle.transfer.specs.Does.{Does, does}
 use Rattle.maskrom.specs.Answers.{control, Asks, writes, finish}
-use Rattle.maskrom.specs.PartWise.{waiting, held, asks, withMoved, closes, closeStep}
-use Rattle.maskrom.proofs.Cases.{writing-pad, writing-dummy, writing-last, close-acts}
+use Rattle.maskrom.specs.PartWise.{waiting, held, asks, withMoved, closeStep}
+use Rattle.transfer.proofs.Cases.{writing-pad, writing-dummy, writing-last}
+use Rattle.maskrom.proofs.Cases.{close-acts}
 use Rattle.upload.specs.Drive.{Transfer, transfer}
 use Rattle.upload.proofs.Cutting.{cut-block, cut-short}
 use Rattle.upload.proofs.Ending.{ending, ending-pad, ending-dummy, ending-last, length-check}
@@ -88,7 +89,6 @@ module _ {R : Type 0} (step : R → ℕ → Told (Does Asks R)) (area : ℕ) (ch
 pub close-goes : (m : MaskRomOperation) (s : MaskRomSteps) (to : Moves) → m .steps ≡ s → movesAt s (m .checked) (m .crc) (held m) ≡ to
     → (room : ℕ) → 4096 ≤ room
     → closeStep m room ≡ given (does (asks s (m .area) (length (to .bytes))) (to .bytes) (withMoved m (to .crc) (to .steps)))
-unfolding closes
 close-goes m s to e t room h =
     close-acts m room h
     ∙ ap₂ (λ (x : MaskRomSteps) (t : Moves). given (does (asks x (m .area) (length (t .bytes))) (t .bytes) (withMoved m (t .crc) (t .steps))))

@@ -7,7 +7,7 @@ use native.Mathlib.Numerals.{add-one}
 use native.Mathlib.Omega.{arith}
 use lib.ListN.{length, take, drop, replicate, length-append, length-drop, take-append-drop, drop-of-length-le}
 use lib.Seq.{take-at, drop-at, take-all, length-take-le}
-use Rattle.maskrom.specs.Upload.{pieces, cut}
+use Rattle.transfer.specs.Upload.{pieces, cut}
 
 pub cut-block : (b rest : List ℕ) → length b ≡ 4096 → cut (b ++ rest) ≡ b ∷ cut rest
 unfolding cut pieces

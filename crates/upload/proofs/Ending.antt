@@ -13,8 +13,8 @@ use Rattle.wire.specs.Bytes.{highFirst}
 use Rattle.wire.proofs.Order.{length-high-first}
 use Rattle.crc.specs.Check.{start, crcOver, check}
 use Rattle.crc.proofs.Laws.{over-append, over-empty}
-use Rattle.maskrom.specs.Upload.{pad, checkBytes, lastZero, uploadBytes}
-use Rattle.maskrom.specs.Moves.{register}
+use Rattle.transfer.specs.Upload.{pad, checkBytes, lastZero, uploadBytes}
+use Rattle.transfer.specs.Moves.{register}
 
 pub register-empty : (checked : Bool) (crc : ℕ) → register checked crc [] ≡ crc
 unfolding register

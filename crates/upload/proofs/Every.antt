@@ -9,19 +9,22 @@ use native.Mathlib.Omega.{arith}
 use native.Mathlib.Decide.{ℕ-discrete}
 use lib.ListN.{length, take, drop, length-append, length-take}
 use lib.Dec.{eqb, ltb}
-use Rattle.wire.specs.Told.{Told, given, refused}
+use Rattle.wire.specs.Told.{Told, given, refused, andThen}
 use Rattle.wire.specs.Rules.{Rule, rule, unless, pick}
-use Rattle.maskrom.specs.declared.MaskRomSteps.{MaskRomSteps}
-use Rattle.maskrom.specs.declared.MaskRomSteps.the-variants.{Writing, Check, Dummy, Done}
+use Rattle.transfer.specs.declared.Moved.{Moved}
+use Rattle.transfer.specs.declared.MaskRomSteps.{MaskRomSteps}
+use Rattle.transfer.specs.declared.MaskRomSteps.the-variants.{Writing, Check, Dummy, Done}
 use Rattle.maskrom.specs.declared.MaskRomOperation.{MaskRomOperation}
 use Rattle.maskrom.specs.declared.WholeUpload.{WholeUpload}
-use Rattle.maskrom.specs.Upload.{blockSize, longest}
-use Rattle.maskrom.specs.Moves.{Moves, moves, register, writing, movesAt}
-use Rattle.maskrom.specs.Does.{Does, does, said, sent, after}
-use Rattle.maskrom.specs.Answers.{tooShort, tooLong, closedAlready, differs, control, took, filled, finish}
-use Rattle.maskrom.specs.PartWise.{waiting, held, closed, holding, takes, partStep, asks, withMoved, closes, closeStep}
+use Rattle.transfer.specs.Upload.{blockSize, longest}
+use Rattle.transfer.specs.Moves.{Moves, moves, register, writing, movesAt}
+use Rattle.transfer.specs.Does.{Does, does, said, sent, after}
+use Rattle.transfer.specs.Sending.{tooShort, moved, sendStep}
+use Rattle.maskrom.specs.Answers.{tooLong, closedAlready, differs, control, took, filled, finish}
+use Rattle.maskrom.specs.PartWise.{waiting, held, closed, holding, takes, partStep, asks, withMoved, closeStep}
 use Rattle.maskrom.specs.Whole.{most, chunk, sentOn, sendsOn, wholeStep}
-use Rattle.maskrom.proofs.Cases.{writing-block, writing-pad, writing-dummy, writing-last, most-block}
+use Rattle.transfer.proofs.Cases.{writing-block, writing-pad, writing-dummy, writing-last}
+use Rattle.maskrom.proofs.Cases.{most-block}
 use Rattle.upload.proofs.Closing.{close-goes}
 use Rattle.upload.proofs.WholeImage.{whole-goes}
 use Rattle.upload.proofs.Ending.{length-check, register-empty}
@@ -47,10 +50,16 @@ few-pick : {A R : Type 0} (b : Bool) (x y : Told (Does A R)) → length (sent x)
 few-pick true x y h k = h
 few-pick false x y h k = k
 
-few-unless : {A R : Type 0} (rules : List Rule) (d : Does A R) → length (d .sends) ≤ 4096 → length (sent (unless rules (given d))) ≤ 4096
+few-unless : {A R : Type 0} (rules : List Rule) (t : Told (Does A R)) → length (sent t) ≤ 4096 → length (sent (unless rules t)) ≤ 4096
 unfolding unless sent
-few-unless [] d h = h
-few-unless (r ∷ rs) d h = few-pick (r .broken) (refused (r .number) (r .values)) (unless rs (given d)) (omega arith) (few-unless rs d h)
+few-unless [] t h = h
+few-unless (r ∷ rs) t h = few-pick (r .broken) (refused (r .number) (r .values)) (unless rs t) (omega arith) (few-unless rs t h)
+
+few-then : {A B R S : Type 0} (f : Does A R → B) (g : Does A R → S) (t : Told (Does A R)) → length (sent t) ≤ 4096
+    → length (sent (andThen t (λ (d : Does A R). given (does (f d) (d .sends) (g d))))) ≤ 4096
+unfolding andThen sent
+few-then f g (given d) h = h
+few-then f g (refused n vs) h = omega arith
 
 few-writing : (checked : Bool) (crc : ℕ) (w : List ℕ) → Dec (length w ≡ 4096) → Dec (length w ≡ 4095) → Dec (length w ≡ 4094) → length w ≤ 4096
     → length (writing checked crc w .bytes) ≤ 4096
@@ -73,7 +82,7 @@ few-taken true x y h k = h
 few-taken false x y h k = k
 
 pub part-writes : (m : MaskRomOperation) (part : List ℕ) (room : ℕ) → length (sent (partStep m part room)) ≤ blockSize
-unfolding partStep takes
+unfolding partStep takes sent
 part-writes m part room =
     let ys = take (4096 - waiting m) part in
     let h : length (held m ++ ys) ≤ 4096 = simp (length-append, length-take) (omega arith) in
@@ -82,21 +91,29 @@ part-writes m part room =
     ∷ rule (closed (m .steps)) closedAlready []
     ∷ rule (ltb longest (m .taken + length part)) tooLong []
     ∷ [])
-    (takes m ys)
+    (given (takes m ys))
     (few-taken (eqb (waiting m + length ys) blockSize)
     (does (filled (length ys) (control (m .area) blockSize)) (held m ++ ys) (holding m ys)) (does (took (length ys)) [] (holding m ys)) h (omega arith))
 
+few-sent : (s : MaskRomSteps) (checked : Bool) (crc : ℕ) (w : List ℕ) (room : ℕ) → length w ≤ 4096 → length (sent (sendStep s checked crc w room)) ≤ 4096
+unfolding sendStep sent
+few-sent s checked crc w room h =
+    let to = movesAt s checked crc w in
+    few-unless (rule (ltb room blockSize) tooShort [] ∷ []) (given (does (moved to) (to .bytes) tt)) (few-moves s checked crc w h)
+
 pub close-writes : (m : MaskRomOperation) (room : ℕ) → length (sent (closeStep m room)) ≤ blockSize
-unfolding closeStep closes
+unfolding closeStep
 close-writes m room =
     let w : length (held m) ≤ 4096 = simp length-take (omega arith) in
-    few-unless (rule (ltb room blockSize) tooShort [] ∷ []) (closes m (movesAt (m .steps) (m .checked) (m .crc) (held m)))
-    (few-moves (m .steps) (m .checked) (m .crc) (held m) w)
+    few-then (λ (d : Does Moved Unit). asks (m .steps) (m .area) (d .says .size)) (λ (d : Does Moved Unit). withMoved m (d .says .crc) (d .says .steps))
+    (sendStep (m .steps) (m .checked) (m .crc) (held m) room) (few-sent (m .steps) (m .checked) (m .crc) (held m) room w)
 
 pub whole-writes : (u : WholeUpload) (image : List ℕ) (room : ℕ) → length (sent (wholeStep u image room)) ≤ blockSize
 unfolding wholeStep sendsOn
 whole-writes u image room =
     let w = chunk u image in
+    let c = register (u .checked) (u .crc) w in
     let h : length w ≤ 4096 = simp length-take (omega (arith, most-block (u .steps))) in
-    few-unless (rule (ltb room blockSize) tooShort [] ∷ rule (not (eqb (length image) (u .length))) differs [] ∷ []) (sendsOn u w)
-    (few-moves (u .steps) (u .checked) (register (u .checked) (u .crc) w) w h)
+    few-unless (rule (ltb room blockSize) tooShort [] ∷ rule (not (eqb (length image) (u .length))) differs [] ∷ []) (sendsOn u w room)
+    (few-then (λ (d : Does Moved Unit). asks (u .steps) (u .area) (d .says .size)) (λ (d : Does Moved Unit). sentOn u (length w) (d .says .crc) (d .says .steps))
+    (sendStep (u .steps) (u .checked) c w room) (few-sent (u .steps) (u .checked) c w room h))

@@ -8,7 +8,7 @@ use native.Mathlib.Omega.{arith}
 use lib.ListN.{length, replicate}
 use Rattle.wire.specs.Bytes.{lowFirst, highFirst}
 use Rattle.crc.specs.Check.{crcOver}
-use Rattle.maskrom.specs.Upload.{blockSize, longest, pad, checkBytes, lastZero, uploadBytes, pieces, cut}
+use Rattle.transfer.specs.Upload.{blockSize, longest, pad, checkBytes, lastZero, uploadBytes, pieces, cut}
 use Rattle.upload.specs.Drive.{Transfer, transfer, Drive, ended, driveParts, transfersOf}
 use Rattle.upload.proofs.Theorems.{any-cut, total, how-many, sizes}
 

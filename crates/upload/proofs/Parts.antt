@@ -11,14 +11,15 @@ use lib.ListN.{length, take, drop, length-append, length-take, length-drop, leng
 use lib.Seq.{length-take-le, take-all, take-at}
 use Rattle.wire.specs.Told.{Told, given}
 use Rattle.wire.specs.Bytes.{front}
-use Rattle.maskrom.specs.declared.MaskRomSteps.the-variants.{Writing}
+use Rattle.transfer.specs.declared.MaskRomSteps.the-variants.{Writing}
 use Rattle.maskrom.specs.declared.MaskRomOperation.{MaskRomOperation}
-use Rattle.maskrom.specs.Upload.{longest, cut}
-use Rattle.maskrom.specs.Moves.{register}
-use Rattle.maskrom.specs.Does.{Does, does, said, sent, after}
+use Rattle.transfer.specs.Upload.{longest, cut}
+use Rattle.transfer.specs.Moves.{register}
+use Rattle.transfer.specs.Does.{Does, does, said, sent, after}
 use Rattle.maskrom.specs.Answers.{control, Handed, took, filled}
 use Rattle.maskrom.specs.PartWise.{waiting, held, closed, holding, takes, partStep, closeStep}
-use Rattle.maskrom.proofs.Lists.{take-min, filled-length}
+use Rattle.transfer.proofs.Lists.{take-min}
+use Rattle.maskrom.proofs.Lists.{filled-length}
 use Rattle.maskrom.proofs.Cases.{part-takes, takes-full, takes-some}
 use Rattle.upload.specs.Drive.{Transfer, transfer, Drive, ended, sending, orAgain, onPart, hand, handAll, stepThrough}
 use Rattle.upload.proofs.Cutting.{cut-block, cut-many}

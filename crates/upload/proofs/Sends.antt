@@ -8,7 +8,7 @@ use lib.ListN.{length, take, drop, length-append, length-drop}
 use lib.Seq.{take-append-seam}
 use Rattle.wire.specs.Told.{Told, given}
 use Rattle.wire.specs.Bytes.{front}
-use Rattle.maskrom.specs.Does.{Does, does, said, sent, after}
+use Rattle.transfer.specs.Does.{Does, does, said, sent, after}
 use Rattle.maskrom.specs.Answers.{control, Asks, writes, finish}
 use Rattle.upload.specs.Drive.{Transfer, transfer, Drive, ended, stopped, unending, sending, onStep, stepThrough}
 

@@ -13,16 +13,16 @@ use Rattle.wire.specs.Rules.{unless}
 use Rattle.wire.specs.Told.{Told, given}
 use Rattle.crc.specs.Check.{start}
 use Rattle.maskrom.specs.declared.WholeUpload.{WholeUpload}
-use Rattle.maskrom.specs.Upload.{blockSize, longest, pad, lastZero, uploadBytes, cut}
-use Rattle.maskrom.specs.Moves.{register}
-use Rattle.maskrom.specs.Does.{Does, does, said, after}
+use Rattle.transfer.specs.Upload.{blockSize, longest, pad, lastZero, uploadBytes, cut}
+use Rattle.transfer.specs.Moves.{register}
+use Rattle.transfer.specs.Does.{Does, does, said, after}
 use Rattle.maskrom.specs.PartWise.{fresh}
 use Rattle.maskrom.specs.Whole.{freshWhole, startStep, wholeStep}
 use Rattle.upload.specs.Drive.{Transfer, transfer, Drive, ended, unending, onStart, stepThrough, driveParts, driveWhole, transfersOf}
 use Rattle.upload.proofs.Cutting.{cut-many, cut-sizes, cut-joins}
 use Rattle.upload.proofs.Ending.{ending, upload-ending, length-ending}
 use Rattle.upload.proofs.Sends.{Sends, enough, needed}
-use Rattle.upload.proofs.WholeImage.{whole-sends}
+use Rattle.upload.proofs.WholeImage.{image-sends}
 use Rattle.upload.proofs.Parts.{left, due, parts-end}
 
 -- DEMAND 3. An image of at most 4,294,967,295 bytes, cut into parts in any way, empty ones too: handed over in order to a fresh upload, with an output of a block
@@ -69,7 +69,7 @@ whole-start : (area : ℕ) (checked : Bool) (image : List ℕ)
 unfolding transfersOf
 whole-start area checked image =
     rw (upload-ending checked image)
-    (whole-sends image (length image / 4096) (freshWhole area checked (length image)) image refl refl refl (zero-add (length image)) refl refl)
+    (image-sends image (length image / 4096) (freshWhole area checked (length image)) image refl refl refl (zero-add (length image)) refl refl)
 
 -- THE WHOLE UPLOAD gives the same list, by floor(T/4,096)+2 steps ..
 pub whole-image : (area : ℕ) (checked : Bool) (image out : List ℕ) → length image ≤ longest → blockSize ≤ length out

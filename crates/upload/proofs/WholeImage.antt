@@ -8,16 +8,17 @@ use native.Mathlib.Omega.{arith}
 use lib.ListN.{length, take, drop, length-drop, take-append-drop}
 use lib.Seq.{length-take-le, take-all, drop-drop}
 use Rattle.wire.specs.Told.{Told, given}
-use Rattle.maskrom.specs.declared.MaskRomSteps.{MaskRomSteps}
-use Rattle.maskrom.specs.declared.MaskRomSteps.the-variants.{Writing, Check, Dummy, Done}
+use Rattle.transfer.specs.declared.MaskRomSteps.{MaskRomSteps}
+use Rattle.transfer.specs.declared.MaskRomSteps.the-variants.{Writing, Check, Dummy, Done}
 use Rattle.maskrom.specs.declared.WholeUpload.{WholeUpload}
-use Rattle.maskrom.specs.Upload.{checkBytes, cut}
-use Rattle.maskrom.specs.Moves.{Moves, moves, register, writing, movesAt}
-use Rattle.maskrom.specs.Does.{Does, does}
+use Rattle.transfer.specs.Upload.{checkBytes, cut}
+use Rattle.transfer.specs.Moves.{Moves, moves, register, writing, movesAt}
+use Rattle.transfer.specs.Does.{Does, does}
 use Rattle.maskrom.specs.Answers.{control, Asks, writes, finish}
 use Rattle.maskrom.specs.PartWise.{asks}
 use Rattle.maskrom.specs.Whole.{most, chunk, sentOn, sendsOn, wholeStep}
-use Rattle.maskrom.proofs.Cases.{writing-block, whole-acts}
+use Rattle.transfer.proofs.Cases.{writing-block}
+use Rattle.maskrom.proofs.Cases.{whole-sends, sends-acts}
 use Rattle.upload.specs.Drive.{Transfer, transfer}
 use Rattle.upload.proofs.Cutting.{cut-block}
 use Rattle.upload.proofs.Ending.{register-empty, ending, regroup, ending-same, length-check}
@@ -32,10 +33,10 @@ module _ (image : List ℕ) where
       → take (most s) (drop (u .taken) image) ≡ w → register (u .checked) (u .crc) w ≡ c → movesAt s (u .checked) c w ≡ to
       → (room : ℕ) → 4096 ≤ room
       → step u room ≡ given (does (asks s (u .area) (length (to .bytes))) (to .bytes) (sentOn u (length w) (to .crc) (to .steps)))
-  unfolding sendsOn
   whole-goes u s w c to l e d k t room h =
-      whole-acts u image room h l
-      ∙ ap (λ (x : List ℕ). given (sendsOn u x)) (ap (λ (x : MaskRomSteps). take (most x) (drop (u .taken) image)) e ∙ d)
+      whole-sends u image room h l
+      ∙ ap (λ (x : List ℕ). sendsOn u x room) (ap (λ (x : MaskRomSteps). take (most x) (drop (u .taken) image)) e ∙ d)
+      ∙ sends-acts u w room h
       ∙ ap₂ (λ (x : MaskRomSteps) (y : Moves). given (does (asks x (u .area) (length (y .bytes))) (y .bytes) (sentOn u (length w) (y .crc) (y .steps))))
       e (ap₂ (λ (x : MaskRomSteps) (y : ℕ). movesAt x (u .checked) y w) e k ∙ t)
 
@@ -61,11 +62,11 @@ module _ (image : List ℕ) where
       (whole-goes u Check [] (u .crc) (moves k (u .crc) Done) l e refl (register-empty (u .checked) (u .crc)) refl) (done next l refl)
 
   -- what is left, `l`, is some whole blocks and less than one
-  pub whole-sends : (q : ℕ) (u : WholeUpload) (l : List ℕ) → u .steps ≡ Writing → length image ≡ u .length → drop (u .taken) image ≡ l
+  pub image-sends : (q : ℕ) (u : WholeUpload) (l : List ℕ) → u .steps ≡ Writing → length image ≡ u .length → drop (u .taken) image ≡ l
       → u .taken + length l ≡ length image → u .taken % 4096 ≡ 0 → length l / 4096 ≡ q
       → Sends step u (map (transfer (u .area)) (cut (l ++ ending (u .checked) (register (u .checked) (u .crc) l) (length image))))
   unfolding asks movesAt most
-  whole-sends zero u l e n d t z q =
+  image-sends zero u l e n d t z q =
       let c = register (u .checked) (u .crc) l in
       let short : length l < 4096 = omega arith in
       let all : take 4096 (drop (u .taken) image) ≡ l = ap (take 4096) d ∙ take-all 4096 l (omega arith) in
@@ -76,7 +77,7 @@ module _ (image : List ℕ) where
       (λ x. dummy (sentOn u (length l) x Dummy) n refl)
       (λ x. check (sentOn u (length l) x Check) n refl)
       short)
-  whole-sends (suc k) u l e n d t z q =
+  image-sends (suc k) u l e n d t z q =
       let w = take 4096 l in
       let rest = drop 4096 l in
       let c = register (u .checked) (u .crc) w in
@@ -91,4 +92,4 @@ module _ (image : List ℕ) where
       rw (all, cut-block w (rest ++ ending (u .checked) (register (u .checked) c rest) (length image)) full)
       (sends u next (u .area) w (map (transfer (u .area)) (cut (rest ++ ending (u .checked) (register (u .checked) c rest) (length image)))) (omega arith)
       (whole-goes u Writing w c (moves w c Writing) n e (ap (take 4096) d) refl (writing-block (u .checked) c w full))
-      (whole-sends k next rest refl n moved (omega arith) (omega arith) (omega arith)))
+      (image-sends k next rest refl n moved (omega arith) (omega arith) (omega arith)))

@@ -9,8 +9,8 @@ use Rattle.wire.specs.Bytes.{front}
 use Rattle.maskrom.specs.declared.Control.{Control}
 use Rattle.maskrom.specs.declared.MaskRomOperation.{MaskRomOperation}
 use Rattle.maskrom.specs.declared.WholeUpload.{WholeUpload}
-use Rattle.maskrom.specs.Upload.{uploadBytes, cut}
-use Rattle.maskrom.specs.Does.{Does, said, sent, after}
+use Rattle.transfer.specs.Upload.{uploadBytes, cut}
+use Rattle.transfer.specs.Does.{Does, said, sent, after}
 use Rattle.maskrom.specs.Answers.{control, Handed, took, filled, Asks, writes, finish}
 use Rattle.maskrom.specs.PartWise.{fresh, partStep, closeStep}
 use Rattle.maskrom.specs.Whole.{freshWhole, startStep, wholeStep}

@@ -4,7 +4,7 @@ use Prim.Native.Nat.{ℕ, min}
 use mathlib.Core.Path.{_≡_, ap, sym, _∙_}
 use native.Mathlib.Omega.{arith}
 use borrow.Author.Needs.{needs}
-use Rattle.maskrom.specs.declared.MaskRomSteps.{MaskRomSteps}
+use Rattle.transfer.specs.declared.MaskRomSteps.{MaskRomSteps}
 use Rattle.maskrom.specs.Whole.{most}
 use Rattle.maskrom.proofs.Cases.{sends-none}
 use Rattle.maskrom.proofs.chunk_size.Statement.{statement}

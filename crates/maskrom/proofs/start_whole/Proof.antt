@@ -7,8 +7,8 @@ use mathlib.Core.Path.{_≡_, refl}
 use denote.Ref.{now}
 use lib.ListN.{length}
 use Rattle.wire.specs.Rules.{unless}
-use Rattle.maskrom.specs.Upload.{longest}
-use Rattle.maskrom.specs.Does.{said, after}
+use Rattle.transfer.specs.Upload.{longest}
+use Rattle.transfer.specs.Does.{said, after}
 use Rattle.maskrom.specs.Answers.{startTold}
 use Rattle.maskrom.specs.Whole.{startStep, StartMeets}
 use Rattle.maskrom.proofs.start_whole.Statement.{statement}

@@ -1,51 +1,70 @@
--- The test is the rule of 20; past it the step is what `send` gives at the bytes that wait.
+-- The step is what `send` tells at the bytes that wait: told on as a step of this record, or its refusal passed on.
 -- Assumes nothing.
-use Prim.Native.Nat.{ℕ, _%_}
-use mathlib.Core.Path.{_≡_, refl, ap, ap₂, sym, _∙_}
-use mathlib.Core.List.{List}
+use Prim.Native.Nat.{ℕ}
+use mathlib.Core.Path.{_≡_, refl, ap, sym, subst, _∙_}
+use mathlib.Core.List.{List, []}
 use borrow.Author.Needs.{needs}
 use denote.Ref.{now}
 use lib.ListN.{length, take}
-use Rattle.wire.specs.Told.{Told, given}
-use Rattle.maskrom.specs.declared.MaskRomSteps.{MaskRomSteps}
+use Rattle.wire.specs.Told.{Told, given, refused}
+use Rattle.transfer.specs.declared.Moved.{Moved}
+use Rattle.transfer.specs.declared.Sent.{Sent}
+use Rattle.transfer.specs.Does.{Does, does, Meets}
+use Rattle.transfer.specs.Sending.{tooShort, sentTold, sendStep}
+use Rattle.transfer.proofs.Cases.{goes-on, passes-on}
+use Rattle.maskrom.specs.declared.MaskRomOperation.{MaskRomOperation}
 use Rattle.maskrom.specs.declared.CloseStepped.{CloseStepped}
-use Rattle.maskrom.specs.Answers.{tooShort, stepTold, Asks}
-use Rattle.maskrom.specs.Moves.{movesAt}
-use Rattle.maskrom.specs.PartWise.{held, asks, withMoved, closes}
-use Rattle.maskrom.proofs.Cases.{keeps, acts, close-20, close-acts}
+use Rattle.maskrom.specs.Answers.{stepTold, Asks}
+use Rattle.maskrom.specs.PartWise.{held, asks, withMoved, closes, closeStep}
 use Rattle.maskrom.proofs.MaskRomOperation.close.Statement.{statement}
 use Rattle.maskrom.proofs.MaskRomOperation.close.Tie as tie
 
+-- what the caller's record comes to, once it is known what is told and handed back
+handed : (r : CloseStepped) (told : Told Asks) (next self : MaskRomOperation) (old new : List ℕ) → stepTold (r .step) ≡ told → r .next ≡ next
+    → Meets told next old new self (closeStep self (length old)) → Meets (stepTold (r .step)) (r .next) old new self (closeStep self (length old))
+handed r told next self old new t n m = rw (t, n) m
+
 returns : tie.Need-returns
-unfolding stepTold
+unfolding stepTold sentTold closeStep
 returns c =
-    let a = c .before .before .before .args in
-    keeps tooShort (close-20 (a .self) (length (now (a .out))) (c .before .if1 .taken))
+    let k = c .before .before .before .before .before in
+    let a = k .before .before .before .before .before .args in
+    let m = a .self in
+    let step = sendStep (m .steps) (m .checked) (m .crc) (held m) (length (now (a .out))) in
+    let new = k .send .last .1 .1 .1 .1 .1 .0 in
+    handed (c .after-close .result) (refused tooShort []) m m (now (a .out)) new
     (ap (λ (r : CloseStepped). stepTold (r .step)) (c .after-close .ensures))
-    (ap (λ (r : CloseStepped). r .next) (c .after-close .ensures)) refl
+    (ap (λ (r : CloseStepped). r .next) (c .after-close .ensures))
+    (passes-on m (now (a .out)) new tooShort (λ (d : Does Moved Unit). given (closes m d)) step
+    (subst (λ (r : Sent). Meets (sentTold r) tt (now (a .out)) new tt step) (c .before .enum-told .given .1) (k .send .ensures)))
 
 returns-2 : tie.Need-returns-2
-unfolding closes
+unfolding sentTold closeStep
 returns-2 c =
-    let k = c .before .before .before .before .before in
-    let a = k .before .before .before .before .before .before .args in
+    let v = c .before .before .before .before in
+    let k = v .before .before .before .before in
+    let a = k .before .before .before .before .before .args in
     let m = a .self in
-    let e = k .send .ensures in
-    acts (closes m (movesAt (m .steps) (m .checked) (m .crc) (held m))) (close-acts m (length (now (a .out))) (k .before .before .before .before .if1 .left))
-    (ap (λ (r : CloseStepped). stepTold (r .step)) (c .after-close2 .ensures) ∙ c .before .before .asked .ensures
-    ∙ ap (λ (n : ℕ). given (asks (m .steps) (m .area) n)) (e .size))
-    (ap (λ (r : CloseStepped). r .next) (c .after-close2 .ensures) ∙ c .before .moved-to .ensures
-    ∙ ap₂ (λ (x : ℕ) (s : MaskRomSteps). withMoved m x s) (e .crc) (e .steps))
-    (e .leaves)
+    let step = sendStep (m .steps) (m .checked) (m .crc) (held m) (length (now (a .out))) in
+    let new = k .send .last .1 .1 .1 .1 .1 .0 in
+    let to = v .sent .given .0 .0 in
+    handed (c .after-close2 .result) (given (asks (m .steps) (m .area) (to .size))) (withMoved m (to .crc) (to .steps)) m (now (a .out)) new
+    (ap (λ (r : CloseStepped). stepTold (r .step)) (c .after-close2 .ensures) ∙ c .before .before .asked .ensures)
+    (ap (λ (r : CloseStepped). r .next) (c .after-close2 .ensures) ∙ c .before .moved-to .ensures)
+    (goes-on m (now (a .out)) new to (λ (x : Moved). asks (m .steps) (m .area) (x .size)) (λ (x : Moved). withMoved m (x .crc) (x .steps)) step
+    (subst (λ (r : Sent). Meets (sentTold r) tt (now (a .out)) new tt step) (v .sent .given .1) (k .send .ensures)))
 
 pub close-spec : {M : Type 1} → statement M
 close-spec =
     tie.close
     (tie.spec
-    (λ c κs. search needs)
-    returns
     (λ c. search needs)
     (λ c κs. search needs)
+    (λ c. search needs)
+    (λ c. search needs)
+    (λ c κs. search needs)
+    (λ c. search needs)
+    returns
     (λ c κs. search needs)
     (λ c κs. search needs)
     (λ c κs. search needs)

@@ -11,16 +11,19 @@ use denote.Ref.{now}
 use lib.ListN.{length, take, length-take}
 use Rattle.wire.specs.Told.{Told, given}
 use Rattle.wire.specs.Bytes.{front}
-use Rattle.maskrom.specs.declared.MaskRomSteps.{MaskRomSteps}
+use Rattle.transfer.specs.declared.MaskRomSteps.{MaskRomSteps}
 use Rattle.maskrom.specs.declared.MaskRomOperation.{MaskRomOperation}
 use Rattle.maskrom.specs.declared.Control.{Control}
 use Rattle.maskrom.specs.declared.PartStepped.{PartStepped}
-use Rattle.maskrom.specs.Upload.{longest}
-use Rattle.maskrom.specs.Does.{Does, does}
-use Rattle.maskrom.specs.Answers.{tooShort, tooLong, closedAlready, control, took, filled, partTold, Handed}
+use Rattle.transfer.specs.Upload.{longest}
+use Rattle.transfer.specs.Sending.{tooShort}
+use Rattle.transfer.specs.Does.{Does, does}
+use Rattle.maskrom.specs.Answers.{tooLong, closedAlready, control, took, filled, partTold, Handed}
 use Rattle.maskrom.specs.PartWise.{waiting, held, closed, holding, takes, partStep}
-use Rattle.maskrom.proofs.Lists.{take-min, filled-block, filled-length}
-use Rattle.maskrom.proofs.Cases.{keeps, acts, is-closed, part-20, part-26, part-25, part-takes, takes-full, takes-some}
+use Rattle.maskrom.proofs.Lists.{filled-block, filled-length}
+use Rattle.transfer.proofs.Lists.{take-min, copied}
+use Rattle.transfer.proofs.Cases.{keeps, acts}
+use Rattle.maskrom.proofs.Cases.{is-closed, part-20, part-26, part-25, part-takes, takes-full, takes-some}
 use Rattle.maskrom.proofs.MaskRomOperation.part.Statement.{statement}
 use Rattle.maskrom.proofs.MaskRomOperation.part.Tie as tie
 
@@ -85,25 +88,29 @@ returns-4 c =
     (ap (λ (r : PartStepped). partTold (r .step)) (c .after-part4 .ensures) ∙ ap (λ (n : ℕ). given (took n)) (sym (many k)))
     (ap (λ (r : PartStepped). r .next) (c .after-part4 .ensures) ∙ c .before .before .hold .ensures) refl
 
+next-long : (c : tie.After-hold) → length (c .hold .result .block) ≡ 4096
+next-long c = search needs
+
 returns-5 : tie.Need-returns-5
 unfolding partTold
 returns-5 c =
     let p = c .before .before .before .before in
-    let h = p .before .before .before .before in
+    let f = p .before .before .before .before in
+    let h = f .before in
     let k = h .before .before in
     let s = k .before .before .before .before .before .before .before .before in
     let a = s .args in
     let m = a .self in
     let ys = take (k .least .result) (now (a .part)) in
-    let full : waiting m + length ys ≡ 4096 = omega (arith, many k, p .before .before .before .if3 .left, k .least .ensures) in
-    let block : take 4096 (h .hold .result .block) ≡ held m ++ ys =
-    ap (λ (r : MaskRomOperation). take 4096 (r .block)) (h .hold .ensures) ∙ filled-block (m .block) (waiting m) ys (block-long s) full in
-    let size : p .put .result ≡ 4096 = p .put .ensures .0 ∙ ap length block ∙ filled-length (m .block) (waiting m) ys (block-long s) full in
+    let full : waiting m + length ys ≡ 4096 = omega (arith, many k, f .if3 .left, k .least .ensures) in
+    let block : h .hold .result .block ≡ held m ++ ys =
+    ap (λ (r : MaskRomOperation). r .block) (h .hold .ensures) ∙ filled-block (m .block) (waiting m) ys (block-long s) full in
+    let size : p .copy .result ≡ 4096 = p .copy .ensures .0 ∙ ap length block ∙ filled-length (m .block) (waiting m) ys (block-long s) full in
     acts (does (filled (length ys) (control (m .area) 4096)) (held m ++ ys) (holding m ys)) (step-takes k ∙ ap given (takes-full m ys full))
     (ap (λ (r : PartStepped). partTold (r .step)) (c .after-part5 .ensures)
     ∙ ap₂ (λ (n : ℕ) (k : Control). given (filled n k)) (sym (many k)) (c .before .control-of .ensures ∙ ap (control (m .area)) size))
     (ap (λ (r : PartStepped). r .next) (c .after-part5 .ensures) ∙ h .hold .ensures)
-    (p .put .ensures .1 ∙ ap (λ (l : List ℕ). front l (now (a .out))) block)
+    (copied (h .hold .result .block) (now (a .out)) (p .copy .last .1 .0) (p .copy .ensures .1) ∙ ap (λ (l : List ℕ). front l (now (a .out))) block)
 
 pub part-spec : {M : Type 1} → statement M
 part-spec =
@@ -125,7 +132,10 @@ part-spec =
     (λ c. search needs)
     (λ c κs. search needs)
     returns-4
-    (λ c κs. search needs)
+    (λ c. search needs)
+    (λ c κs.
+    let h = c .before .before .before .before in
+    omega (arith, next-long h, h .before .before .before .before .before .before .before .if1 .left))
     (λ c κs. search needs)
     (λ c κs. search needs)
     (λ c. search needs)

@@ -1,39 +1,78 @@
--- The block begins with the chunk and the register covers it, so the step is what `send` gives there.
+-- The block begins with the chunk and the register covers it, so the step is what `send` tells there: told on as a step of this record, or its refusal passed on.
 -- Assumes nothing.
 use Prim.Native.Nat.{ℕ}
-use mathlib.Core.Path.{_≡_, refl, ap, ap₂, subst, _∙_}
-use mathlib.Core.List.{List}
+use mathlib.Core.Path.{_≡_, refl, ap, ap₂, sym, subst, _∙_}
+use mathlib.Core.List.{List, []}
 use borrow.Author.Needs.{needs}
 use denote.Ref.{now}
 use lib.ListN.{length, take}
-use Rattle.wire.specs.Told.{given}
-use Rattle.maskrom.specs.declared.MaskRomSteps.{MaskRomSteps}
+use Rattle.wire.specs.Told.{Told, given, refused}
+use Rattle.transfer.specs.declared.Moved.{Moved}
+use Rattle.transfer.specs.declared.Sent.{Sent}
+use Rattle.transfer.specs.Moves.{register}
+use Rattle.transfer.specs.Does.{Does, does, Meets}
+use Rattle.transfer.specs.Sending.{tooShort, sentTold, sendStep}
+use Rattle.transfer.proofs.Cases.{goes-on, passes-on}
+use Rattle.maskrom.specs.declared.WholeUpload.{WholeUpload}
 use Rattle.maskrom.specs.declared.WholeStepped.{WholeStepped}
-use Rattle.maskrom.specs.Answers.{stepTold}
-use Rattle.maskrom.specs.Moves.{Moves, register, movesAt, SendMeets}
+use Rattle.maskrom.specs.Answers.{stepTold, Asks}
 use Rattle.maskrom.specs.PartWise.{asks}
 use Rattle.maskrom.specs.Whole.{sentOn, sendsOn}
-use Rattle.maskrom.proofs.Cases.{acts}
 use Rattle.maskrom.proofs.WholeUpload.send_on.Statement.{statement}
 use Rattle.maskrom.proofs.WholeUpload.send_on.Tie as tie
 
-returns : tie.Need-returns
-unfolding sendsOn
-returns c =
-    let k = c .before .before .before .before .before in
+-- what the caller's record comes to, once it is known what is told and handed back
+handed : (r : WholeStepped) (told : Told Asks) (next self : WholeUpload) (w old new : List ℕ) → stepTold (r .step) ≡ told → r .next ≡ next
+    → Meets told next old new self (sendsOn self w (length old)) → Meets (stepTold (r .step)) (r .next) old new self (sendsOn self w (length old))
+handed r told next self w old new t n m = rw (t, n) m
+
+-- what `send` promises, of the chunk itself
+sent-chunk : (k : tie.After-send)
+    → let a = k .before .before .before .before .before .before .args in
+    let u = a .self in
+    let w = now (a .chunk) in
+    Meets (sentTold (k .send .result)) tt (now (a .out)) (k .send .last .1 .1 .1 .1 .1 .0) tt
+    (sendStep (u .steps) (u .checked) (register (u .checked) (u .crc) w) w (length (now (a .out))))
+sent-chunk k =
     let b = k .before .before in
     let a = b .before .before .before .before .args in
     let u = a .self in
+    subst (λ (step : Told (Does Moved Unit)). Meets (sentTold (k .send .result)) tt (now (a .out)) (k .send .last .1 .1 .1 .1 .1 .0) tt step)
+    (ap₂ (λ (x : ℕ) (l : List ℕ). sendStep (u .steps) (u .checked) x l (length (now (a .out)))) (b .before .covered .ensures) (b .block-of .ensures))
+    (k .send .ensures)
+
+returns : tie.Need-returns
+unfolding stepTold sentTold sendsOn
+returns c =
+    let k = c .before .before .before .before .before in
+    let a = k .before .before .before .before .before .before .args in
+    let u = a .self in
     let w = now (a .chunk) in
-    let e : SendMeets (k .send .result) (now (a .out)) (k .send .last .1 .1 .1 .1 .1 .0) (movesAt (u .steps) (u .checked) (register (u .checked) (u .crc) w) w) =
-    subst (λ (to : Moves). SendMeets (k .send .result) (now (a .out)) (k .send .last .1 .1 .1 .1 .1 .0) to)
-    (ap₂ (λ (x : ℕ) (l : List ℕ). movesAt (u .steps) (u .checked) x l) (b .before .covered .ensures) (b .block-of .ensures)) (k .send .ensures) in
-    acts (sendsOn u w) refl
-    (ap (λ (r : WholeStepped). stepTold (r .step)) (c .after-step .ensures) ∙ c .before .before .asked .ensures
-    ∙ ap (λ (n : ℕ). given (asks (u .steps) (u .area) n)) (e .size))
-    (ap (λ (r : WholeStepped). r .next) (c .after-step .ensures) ∙ c .before .moved-on .ensures
-    ∙ ap₂ (λ (x : ℕ) (s : MaskRomSteps). sentOn u (length w) x s) (e .crc) (e .steps))
-    (e .leaves)
+    let step = sendStep (u .steps) (u .checked) (register (u .checked) (u .crc) w) w (length (now (a .out))) in
+    let new = k .send .last .1 .1 .1 .1 .1 .0 in
+    handed (c .after-step .result) (refused tooShort []) u u w (now (a .out)) new
+    (ap (λ (r : WholeStepped). stepTold (r .step)) (c .after-step .ensures))
+    (ap (λ (r : WholeStepped). r .next) (c .after-step .ensures))
+    (passes-on u (now (a .out)) new tooShort
+    (λ (d : Does Moved Unit). given (does (asks (u .steps) (u .area) (d .says .size)) (d .sends) (sentOn u (length w) (d .says .crc) (d .says .steps)))) step
+    (subst (λ (r : Sent). Meets (sentTold r) tt (now (a .out)) new tt step) (c .before .enum-told .given .1) (sent-chunk k)))
+
+returns-2 : tie.Need-returns-2
+unfolding sentTold sendsOn
+returns-2 c =
+    let v = c .before .before .before .before in
+    let k = v .before .before .before .before in
+    let a = k .before .before .before .before .before .before .args in
+    let u = a .self in
+    let w = now (a .chunk) in
+    let step = sendStep (u .steps) (u .checked) (register (u .checked) (u .crc) w) w (length (now (a .out))) in
+    let new = k .send .last .1 .1 .1 .1 .1 .0 in
+    let to = v .sent .given .0 .0 in
+    handed (c .after-step2 .result) (given (asks (u .steps) (u .area) (to .size))) (sentOn u (length w) (to .crc) (to .steps)) u w (now (a .out)) new
+    (ap (λ (r : WholeStepped). stepTold (r .step)) (c .after-step2 .ensures) ∙ c .before .before .asked .ensures)
+    (ap (λ (r : WholeStepped). r .next) (c .after-step2 .ensures) ∙ c .before .moved-on .ensures)
+    (goes-on u (now (a .out)) new to (λ (x : Moved). asks (u .steps) (u .area) (x .size)) (λ (x : Moved). sentOn u (length w) (x .crc) (x .steps)) step
+    (subst (λ (r : Sent). Meets (sentTold r) tt (now (a .out)) new tt step) (v .sent .given .1) (sent-chunk k)))
 
 pub send-on-spec : {M : Type 1} → statement M
 send-on-spec =
@@ -42,8 +81,13 @@ send-on-spec =
     (λ c κs. search needs)
     (λ c κs. search needs)
     (λ c κs. search needs)
+    (λ c. search needs)
+    (λ c. search needs)
+    (λ c κs. search needs)
+    (λ c. search needs)
+    returns
     (λ c κs. search needs)
     (λ c κs. search needs)
     (λ c κs. search needs)
     (λ c. search needs)
-    returns)
+    returns-2)

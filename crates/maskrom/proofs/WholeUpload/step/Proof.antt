@@ -10,11 +10,13 @@ use lib.ListN.{length, take, drop, length-take, length-drop}
 use Rattle.wire.specs.Told.{Told, given}
 use Rattle.maskrom.specs.declared.WholeUpload.{WholeUpload}
 use Rattle.maskrom.specs.declared.WholeStepped.{WholeStepped}
-use Rattle.maskrom.specs.Does.{Does, Meets}
-use Rattle.maskrom.specs.Answers.{tooShort, differs, stepTold, Asks}
+use Rattle.transfer.specs.Does.{Does, Meets}
+use Rattle.transfer.specs.Sending.{tooShort}
+use Rattle.transfer.proofs.Cases.{keeps}
+use Rattle.maskrom.specs.Answers.{differs, stepTold, Asks}
 use Rattle.maskrom.specs.Whole.{most, chunk, sendsOn, wholeStep}
 use Rattle.maskrom.proofs.Lists.{part-of}
-use Rattle.maskrom.proofs.Cases.{most-block, keeps, whole-20, whole-27, whole-acts}
+use Rattle.maskrom.proofs.Cases.{most-block, whole-20, whole-27, whole-sends}
 use Rattle.maskrom.proofs.WholeUpload.step.Statement.{statement}
 use Rattle.maskrom.proofs.WholeUpload.step.Tie as tie
 
@@ -72,8 +74,8 @@ returns-3 c =
     let a = b .before .before .before .before .before .args in
     let r = c .before .before .send-on in
     subst (λ (step : Told (Does Asks WholeUpload)). Meets (stepTold (r .result .step)) (r .result .next) (now (a .out)) (r .last .1 .1 .0) (a .self) step)
-    (ap (λ (l : List ℕ). given (sendsOn (a .self) l)) (lent k)
-    ∙ sym (whole-acts (a .self) (now (a .image)) (length (now (a .out))) (b .before .before .if1 .left) (b .if2 .left)))
+    (ap (λ (l : List ℕ). sendsOn (a .self) l (length (now (a .out)))) (lent k)
+    ∙ sym (whole-sends (a .self) (now (a .image)) (length (now (a .out))) (b .before .before .if1 .left) (b .if2 .left)))
     (r .ensures)
 
 pub step-spec : {M : Type 1} → statement M
@@ -93,6 +95,6 @@ step-spec =
     (λ c. search needs)
     (λ c. search needs)
     within
-    (λ c κs. (omega (arith, few (c .before .before) .0), omega (arith, few (c .before .before) .1), omega arith))
+    (λ c κs. few (c .before .before))
     (λ c. search needs)
     returns-3)

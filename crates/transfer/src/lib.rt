@@ -1,45 +1,44 @@
-// One transfer put together: what is left of the image at the front of a block, then the pad, the check or the last zero.
+// One transfer of an upload, put together: what is left of the image at the front of a block, then the pad, the check or the last zero.
 ghost use mathlib.Core.Path.{_≡_};
 ghost use mathlib.Core.List.{[], _∷_, _++_};
 ghost use Prim.Native.Nat.{_+_, _≤_, min};
 ghost use lib.ListN.{length, take};
-ghost use Rattle.wire.specs.Told.{given};
 ghost use Rattle.wire.specs.Bytes.{front, highFirst};
-ghost use Rattle.maskrom.specs.Upload.{checkBytes};
-ghost use Rattle.maskrom.specs.Moves.{register, writing, movesAt, SendMeets};
-ghost use Rattle.maskrom.specs.Answers.{control, stepTold};
-ghost use Rattle.maskrom.specs.PartWise.{asks};
-use super::Control;
-use super::MaskRomSteps;
-use super::UploadStep;
+ghost use Rattle.transfer.specs.Upload.{checkBytes};
+ghost use Rattle.transfer.specs.Moves.{register, writing, movesAt, SendMeets};
+ghost use Rattle.transfer.specs.Does.{Meets};
+ghost use Rattle.transfer.specs.Sending.{sentTold, sendStep};
+
+const BLOCK: usize = 4096;
+
+// Where an upload stands: the image goes on, its check is left, the last zero is left, nothing is left.
+pub enum MaskRomSteps {
+    Writing,
+    Check,
+    Dummy,
+    Done,
+}
 
 // What was put into the output, the check behind it, and where the upload then stands.
-pub(crate) struct Moved {
+pub struct Moved {
     pub size: usize,
     pub crc: u16,
     pub steps: MaskRomSteps,
 }
 
-pub(crate) fn least(a: usize, b: usize) -> usize
+pub enum Sent {
+    Moved(Moved),
+    OutputTooShort,
+}
+
+fn least(a: usize, b: usize) -> usize
     ensures { λ r. ⌜ r ≡ min a b ⌝ }
 {
     if a < b { a } else { b }
 }
 
-pub(crate) fn control_of(area: u16, size: usize) -> Control
-    ensures { λ r. ⌜ r ≡ control area size ⌝ }
-{
-    Control {
-        request_type: 0x40,
-        request: 0xc,
-        value: 0,
-        index: area,
-        size,
-    }
-}
-
 // Without a check nothing is worked out.
-pub(crate) fn covered(checked: bool, crc: u16, bytes: &[u8]) -> u16
+pub fn covered(checked: bool, crc: u16, bytes: &[u8]) -> u16
     ensures { λ r. ⌜ r ≡ register checked crc (now (bytes .entry)) ⌝ }
 {
     if checked {
@@ -76,7 +75,7 @@ fn with_check(block: [u8; 4096], n: usize, check: u16) -> [u8; 4096]
 }
 
 // The first n bytes of the block go to the front of the output.
-pub(crate) fn put(block: [u8; 4096], n: usize, out: &mut [u8]) -> usize
+fn put(block: [u8; 4096], n: usize, out: &mut [u8]) -> usize
     requires { ⌜ (n ≤ 4096) × (4096 ≤ length (now out)) ⌝ }
     ensures { λ r. ⌜ (r ≡ length (take n block)) × (now (out .exit) ≡ front (take n block) (now (out .entry))) ⌝ }
 {
@@ -114,8 +113,7 @@ fn write_on(checked: bool, crc: u16, block: [u8; 4096], n: usize, out: &mut [u8]
     }
 }
 
-// One step of an image of which no more will come.
-pub(crate) fn send(
+fn send_at(
     steps: MaskRomSteps,
     checked: bool,
     crc: u16,
@@ -154,22 +152,21 @@ pub(crate) fn send(
     }
 }
 
-// What is asked of the transport: a control write, or nothing any more.
-pub(crate) fn asked(steps: MaskRomSteps, area: u16, size: usize) -> UploadStep
-    ensures { λ r. ⌜ stepTold r ≡ given (asks steps area size) ⌝ }
+// One step of an image of which no more will come: the first n bytes of the block are what is left of it, and the check covers them.
+pub fn send(
+    steps: MaskRomSteps,
+    checked: bool,
+    crc: u16,
+    block: [u8; 4096],
+    n: usize,
+    out: &mut [u8],
+) -> Sent
+    ensures { λ r. ⌜ Meets (sentTold r) tt (now (out .entry)) (now (out .exit)) tt (sendStep steps checked crc (take n block) (length (now (out .entry)))) ⌝ }
 {
-    match steps {
-        MaskRomSteps::Done => UploadStep::Finished,
-        _ => UploadStep::WriteControl(control_of(area, size)),
+    if out.len() < BLOCK {
+        return Sent::OutputTooShort;
     }
-}
-
-// The bytes at the front of a block of zeros.
-pub(crate) fn block_of(bytes: &[u8]) -> [u8; 4096]
-    requires { ⌜ length (now bytes) ≤ 4096 ⌝ }
-    ensures { λ r. ⌜ take (length (now (bytes .entry))) r ≡ now (bytes .entry) ⌝ }
-{
-    let mut block = [0u8; 4096];
-    bytes::copy(bytes, &mut block);
-    block
+    let left = least(n, BLOCK);
+    let to = send_at(steps, checked, crc, block, left, out);
+    Sent::Moved(to)
 }

@@ -6,12 +6,12 @@ use mathlib.Core.List.{List, [], _∷_}
 use borrow.Author.Needs.{needs}
 use denote.Ref.{now}
 use lib.ListN.{take}
-use Rattle.maskrom.specs.declared.MaskRomSteps.the-variants.{Done}
-use Rattle.maskrom.specs.Upload.{checkBytes}
-use Rattle.maskrom.specs.Moves.{movesAt}
-use Rattle.maskrom.proofs.Cases.{meets, at-steps}
-use Rattle.maskrom.proofs.transfer.send.Statement.{statement}
-use Rattle.maskrom.proofs.transfer.send.Tie as tie
+use Rattle.transfer.specs.declared.MaskRomSteps.the-variants.{Done}
+use Rattle.transfer.specs.Upload.{checkBytes}
+use Rattle.transfer.specs.Moves.{movesAt}
+use Rattle.transfer.proofs.Cases.{meets, at-steps}
+use Rattle.transfer.proofs.send_at.Statement.{statement}
+use Rattle.transfer.proofs.send_at.Tie as tie
 
 returns : tie.Need-returns
 unfolding movesAt
@@ -50,8 +50,8 @@ returns-4 c =
     at-steps (record { size = 0; crc = a .crc; steps = Done }) (now (a .out)) (now (a .out)) (a .checked) (a .crc) (take (a .n) (a .block))
     (c .enum-told4 .given .1) (record { size = refl; crc = refl; steps = refl; leaves = refl })
 
-pub send-spec : {M : Type 1} → statement M
-send-spec =
+pub send-at-spec : {M : Type 1} → statement M
+send-at-spec =
     tie.close
     (tie.spec
     (λ c. search needs)

@@ -8,13 +8,13 @@ use borrow.Author.Needs.{needs}
 use denote.Ref.{now}
 use lib.ListN.{length, take}
 use lib.Seq.{length-take-le}
-use Rattle.maskrom.specs.declared.MaskRomSteps.{MaskRomSteps}
-use Rattle.maskrom.specs.declared.MaskRomSteps.the-variants.{Writing, Check, Dummy, Done}
-use Rattle.maskrom.specs.Upload.{checkBytes}
-use Rattle.maskrom.specs.Moves.{register, moves, SendMeets}
-use Rattle.maskrom.proofs.Cases.{writing-block, writing-pad, writing-dummy, writing-last, meets}
-use Rattle.maskrom.proofs.transfer.write_on.Statement.{statement}
-use Rattle.maskrom.proofs.transfer.write_on.Tie as tie
+use Rattle.transfer.specs.declared.MaskRomSteps.{MaskRomSteps}
+use Rattle.transfer.specs.declared.MaskRomSteps.the-variants.{Writing, Check, Dummy, Done}
+use Rattle.transfer.specs.Upload.{checkBytes}
+use Rattle.transfer.specs.Moves.{register, moves, SendMeets}
+use Rattle.transfer.proofs.Cases.{writing-block, writing-pad, writing-dummy, writing-last, meets}
+use Rattle.transfer.proofs.write_on.Statement.{statement}
+use Rattle.transfer.proofs.write_on.Tie as tie
 
 long : (s : tie.Start) → length (take (s .args .n) (s .args .block)) ≡ s .args .n
 long s = length-take-le (s .args .n) (s .args .block) (search needs)

@@ -9,10 +9,10 @@ use mathlib.Core.Path.{_≡_}
 use Rattle.wire.specs.Rules.{pick}
 use Rattle.wire.specs.Bytes.{front}
 use Rattle.crc.specs.Check.{crcOver}
-use Rattle.maskrom.specs.declared.MaskRomSteps.{MaskRomSteps}
-use Rattle.maskrom.specs.declared.MaskRomSteps.the-variants.{Writing, Check, Dummy, Done}
-use Rattle.maskrom.specs.declared.transfer.Moved.{Moved}
-use Rattle.maskrom.specs.Upload.{blockSize, checkBytes}
+use Rattle.transfer.specs.declared.MaskRomSteps.{MaskRomSteps}
+use Rattle.transfer.specs.declared.MaskRomSteps.the-variants.{Writing, Check, Dummy, Done}
+use Rattle.transfer.specs.declared.Moved.{Moved}
+use Rattle.transfer.specs.Upload.{blockSize, checkBytes}
 
 -- the register once it covers these bytes too; without a check it stays
 unfoldable pub register : Bool → ℕ → List ℕ → ℕ

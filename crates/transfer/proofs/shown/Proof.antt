@@ -2,9 +2,9 @@
 -- Assumes nothing.
 use mathlib.Core.Path.{refl}
 use Rattle.wire.specs.Bytes.{lowFirst, highFirst}
-use Rattle.maskrom.specs.Upload.{checkBytes}
-use Rattle.maskrom.proofs.transfer.shown.Statement.{statement}
-use Rattle.maskrom.proofs.transfer.shown.Tie as tie
+use Rattle.transfer.specs.Upload.{checkBytes}
+use Rattle.transfer.proofs.shown.Statement.{statement}
+use Rattle.transfer.proofs.shown.Tie as tie
 
 returns : tie.Need-returns
 unfolding checkBytes

@@ -3,13 +3,13 @@
 use borrow.Author.Needs.{needs}
 use mathlib.Core.Path.{_≡_, refl, ap, sym, _∙_}
 use Rattle.wire.specs.Told.{Told, given}
-use Rattle.maskrom.specs.declared.MaskRomSteps.{MaskRomSteps}
+use Rattle.transfer.specs.declared.MaskRomSteps.{MaskRomSteps}
 use Rattle.maskrom.specs.declared.Control.{Control}
 use Rattle.maskrom.specs.Answers.{stepTold, Asks, writes}
 use Rattle.maskrom.specs.PartWise.{asks}
 use Rattle.maskrom.proofs.Cases.{asks-write}
-use Rattle.maskrom.proofs.transfer.asked.Statement.{statement}
-use Rattle.maskrom.proofs.transfer.asked.Tie as tie
+use Rattle.maskrom.proofs.asked.Statement.{statement}
+use Rattle.maskrom.proofs.asked.Tie as tie
 
 returns : tie.Need-returns
 unfolding stepTold asks

@@ -6,9 +6,10 @@ use mathlib.Core.Path.{_≡_, ap, _∙_}
 use mathlib.Core.List.{List}
 use denote.Ref.{now}
 use lib.ListN.{length, take, replicate}
-use Rattle.maskrom.proofs.Lists.{copied, take-front}
-use Rattle.maskrom.proofs.transfer.block_of.Statement.{statement}
-use Rattle.maskrom.proofs.transfer.block_of.Tie as tie
+use Rattle.transfer.proofs.Lists.{copied}
+use Rattle.maskrom.proofs.Lists.{take-front}
+use Rattle.maskrom.proofs.block_of.Statement.{statement}
+use Rattle.maskrom.proofs.block_of.Tie as tie
 
 returns : tie.Need-returns
 returns c =

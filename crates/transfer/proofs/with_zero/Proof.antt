@@ -4,9 +4,9 @@ use borrow.Author.Needs.{needs}
 use native.Mathlib.Omega.{arith}
 use Prim.Native.Nat.{_<_}
 use lib.ListN.{length}
-use Rattle.maskrom.proofs.Lists.{take-set}
-use Rattle.maskrom.proofs.transfer.with_zero.Statement.{statement}
-use Rattle.maskrom.proofs.transfer.with_zero.Tie as tie
+use Rattle.transfer.proofs.Lists.{take-set}
+use Rattle.transfer.proofs.with_zero.Statement.{statement}
+use Rattle.transfer.proofs.with_zero.Tie as tie
 
 returns : tie.Need-returns
 returns c =

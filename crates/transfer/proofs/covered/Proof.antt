@@ -2,9 +2,9 @@
 -- Assumes nothing.
 use borrow.Author.Needs.{needs}
 use mathlib.Core.Path.{_≡_, refl}
-use Rattle.maskrom.specs.Moves.{register}
-use Rattle.maskrom.proofs.transfer.covered.Statement.{statement}
-use Rattle.maskrom.proofs.transfer.covered.Tie as tie
+use Rattle.transfer.specs.Moves.{register}
+use Rattle.transfer.proofs.covered.Statement.{statement}
+use Rattle.transfer.proofs.covered.Tie as tie
 
 returns : tie.Need-returns
 unfolding register

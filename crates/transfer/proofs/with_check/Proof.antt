@@ -4,9 +4,9 @@ use borrow.Author.Needs.{needs}
 use native.Mathlib.Omega.{arith}
 use Prim.Native.Nat.{_<_, _+_, _/_, _%_}
 use lib.ListN.{length}
-use Rattle.maskrom.proofs.Lists.{take-set-two, two-bytes}
-use Rattle.maskrom.proofs.transfer.with_check.Statement.{statement}
-use Rattle.maskrom.proofs.transfer.with_check.Tie as tie
+use Rattle.transfer.proofs.Lists.{take-set-two, two-bytes}
+use Rattle.transfer.proofs.with_check.Statement.{statement}
+use Rattle.transfer.proofs.with_check.Tie as tie
 
 returns : tie.Need-returns
 returns c =

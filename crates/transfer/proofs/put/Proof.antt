@@ -7,9 +7,9 @@ use Prim.Native.Nat.{_≤_}
 use denote.Ref.{now}
 use lib.ListN.{length, take}
 use lib.Seq.{length-take-le}
-use Rattle.maskrom.proofs.Lists.{copied}
-use Rattle.maskrom.proofs.transfer.put.Statement.{statement}
-use Rattle.maskrom.proofs.transfer.put.Tie as tie
+use Rattle.transfer.proofs.Lists.{copied}
+use Rattle.transfer.proofs.put.Statement.{statement}
+use Rattle.transfer.proofs.put.Tie as tie
 
 block-long : (c : tie.Start) → length (take (c .args .n) (c .args .t1)) ≡ c .args .n
 block-long c = length-take-le (c .args .n) (c .args .t1) (search needs)

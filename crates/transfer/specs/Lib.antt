@@ -1,0 +1,6 @@
+-- `Upload` is what goes over the wire, `Moves` one step of an image of which no more will come, `Does` the shape of a promise, `Sending` the step with its
+-- refusal and the document's number of it.
+pub mod Upload
+pub mod Moves
+pub mod Does
+pub mod Sending
