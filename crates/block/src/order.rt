@@ -53,12 +53,8 @@ pub fn u32_to_le_bytes(v: u32) -> [u8; 4]
 pub fn u32_to_be_bytes(v: u32) -> [u8; 4]
     ensures { λ r. ⌜ r ≡ highFirst 4 v ⌝ }
 {
-    [
-        (v / 256 / 256 / 256 % 256) as u8,
-        (v / 256 / 256 % 256) as u8,
-        (v / 256 % 256) as u8,
-        (v % 256) as u8,
-    ]
+    let low = u32_to_le_bytes(v);
+    [low[3], low[2], low[1], low[0]]
 }
 
 pub fn u16_to_le_bytes(v: u16) -> [u8; 2]
@@ -70,5 +66,6 @@ pub fn u16_to_le_bytes(v: u16) -> [u8; 2]
 pub fn u16_to_be_bytes(v: u16) -> [u8; 2]
     ensures { λ r. ⌜ r ≡ highFirst 2 v ⌝ }
 {
-    [(v / 256 % 256) as u8, (v % 256) as u8]
+    let low = u16_to_le_bytes(v);
+    [low[1], low[0]]
 }

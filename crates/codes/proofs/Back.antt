@@ -2,9 +2,10 @@
 -- Assumes nothing.
 use Prim.Native.Nat.{ℕ}
 use mathlib.Core.Path.{_≡_, refl, ap, sym, _∙_}
-use mathlib.Core.List.{List, [], _∷_}
+use mathlib.Core.List.{[], _∷_, map}
+use native.Mathlib.Omega.{arith}
 use Rattle.wire.specs.Told.{Told, given, refused}
-use Rattle.codes.specs.Numbers.{directionNumber, codeNumber, statusNumber, resetNumber, storageNumber}
+use Rattle.codes.specs.Numbers.{directionNumber, codeNumber, statusNumber, resetNumber, storageNumber, storageIndexes}
 use Rattle.codes.specs.Reading.{byNumber, known, directionOf, codeOf, statusOf, resetOf, storageOf, directionReadTold, codeReadTold, statusReadTold, resetReadTold}
 use Rattle.codes.specs.declared.Direction.{Direction}
 use Rattle.codes.specs.declared.Direction.the-variants.{In, Out}
@@ -23,7 +24,7 @@ use Rattle.codes.specs.declared.ResetOpcode.the-variants.{Reset, MSC, Po
 use Rattle.codes.specs.declared.ResetRead.{ResetRead}
 use Rattle.codes.specs.declared.ResetRead.the-variants as reset
 use Rattle.codes.specs.declared.StorageIndex.{StorageIndex}
-use Rattle.codes.specs.declared.StorageIndex.the-variants.{Nand, Emmc, Sd0, Sd1, SpiNor, SpiNand, Ram, MtdBlkNand, MtdBlkSpiNand, MtdBlkSpiNor, Sata, Pcie, Ufs}
+use Rattle.codes.specs.declared.StorageIndex.the-variants.{Sd1, Unknown}
 
 pub direction-back : (value : Direction) → directionOf (directionNumber value) ≡ given value
 unfolding byNumber known directionOf
@@ -72,6 +73,18 @@ reset-back MSC = refl
 reset-back PowerOff = refl
 reset-back Maskrom = refl
 reset-back Disconnect = refl
+
+-- every named index reads back as itself
+pub storage-back : map (λ (index : StorageIndex). storageOf (storageNumber index)) storageIndexes ≡ storageIndexes
+unfolding byNumber storageOf
+storage-back = refl
+
+-- `Unknown(3)` and `Sd1` both write 3 and are told apart
+pub same-number : storageNumber (Unknown 3) ≡ storageNumber Sd1
+same-number = refl
+
+pub told-apart : Unknown 3 ≡ Sd1 → ⊥
+told-apart e = let z : _≡_ {A = ℕ} 0 1 = cc in omega arith
 
 -- an answer is read off what it tells
 module _ {A R : Type 0} (known : A → R) (unknown : ℕ → R) where

@@ -1,2 +1,7 @@
--- Laws of the command block: `Reading` by cases of the rule.
+-- Laws of the command block: `Reading` by cases of the rule, `Trips` reads back what was written and writes back what was read, `Unique` that answers are equal,
+-- `Examples` has document 01's P1, `Wrong` programs that the contracts rule out.
 pub mod Reading
+pub mod Trips
+pub mod Unique
+pub mod Examples
+pub mod Wrong

@@ -9,7 +9,7 @@ use lib.ListN.{length, getD, take}
 use Rattle.wire.specs.Told.{Told, given, refused, andThen}
 use Rattle.wire.specs.Rules.{unless}
 use Rattle.codes.specs.Numbers.{directionNumber, directions, codeNumber, commandCodes}
-use Rattle.codes.specs.Reading.{known, directionOf, codeOf}
+use Rattle.codes.specs.Reading.{directionOf, codeOf}
 use Rattle.codes.specs.declared.Direction.{Direction}
 use Rattle.codes.specs.declared.CommandCode.{CommandCode}
 use Rattle.codes.proofs.Reading.{known-refused}

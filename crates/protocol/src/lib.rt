@@ -16,7 +16,7 @@ use codes::DirectionRead;
 use codes::ResetOpcode;
 use codes::StorageIndex;
 ghost use mathlib.Core.Path.{_≡_};
-ghost use Prim.Native.Nat.{_*_, _≤_};
+ghost use Prim.Native.Nat.{_≤_};
 ghost use lib.ListN.{length};
 ghost use Rattle.protocol.specs.Commands.{replyCommand, opcodeCommand, sectorCommand, flashIdCommand, flashInfoCommand, capabilityCommand, chipInfoCommand, storageCommand, eraseLbaCommand, eraseForceCommand, readLbaCommand, writeLbaCommand, resetCommand, switchCommand};
 ghost use Rattle.protocol.specs.CommandBytes.{commandBytes, blockOf, readCommand, writeCommand};
@@ -123,13 +123,6 @@ fn sector_command(
     }
 }
 
-// Bytes of `count` sectors.
-fn sector_bytes(count: u16) -> u32
-    ensures { λ r. ⌜ r ≡ count * 512 ⌝ }
-{
-    (count as u32) * (SECTOR_SIZE as u32)
-}
-
 // An answer that has no signature to tell.
 fn parsed(answer: CommandAnswer) -> CommandParse
     ensures { λ r. ⌜ r ≡ parsed answer ⌝ }
@@ -211,9 +204,10 @@ impl CommandBlock {
     pub fn read_lba(tag: u32, first: u32, sectors: u16) -> CommandBlock
         ensures { λ r. ⌜ r ≡ readLbaCommand tag first sectors ⌝ }
     {
+        let length = (sectors as u32) * (SECTOR_SIZE as u32);
         sector_command(
             tag,
-            sector_bytes(sectors),
+            length,
             Direction::In,
             CommandCode::ReadLBA,
             first,
@@ -224,9 +218,10 @@ impl CommandBlock {
     pub fn write_lba(tag: u32, first: u32, sectors: u16) -> CommandBlock
         ensures { λ r. ⌜ r ≡ writeLbaCommand tag first sectors ⌝ }
     {
+        let length = (sectors as u32) * (SECTOR_SIZE as u32);
         sector_command(
             tag,
-            sector_bytes(sectors),
+            length,
             Direction::Out,
             CommandCode::WriteLBA,
             first,

@@ -1,3 +1,7 @@
--- Laws of replies: `Places` links the count of ones and the trailing zeros of a word to the places that are set in it, `Masks` says what a flag's mask asks.
+-- Laws of replies: `Places` links the count of ones and the trailing zeros of a word to the places that are set in it, `OneBit` says which words are accepted,
+-- `Masks` what a flag's mask asks, `Unique` that answers are equal, `Examples` has document 01's P9 to P12.
 pub mod Places
+pub mod OneBit
 pub mod Masks
+pub mod Unique
+pub mod Examples

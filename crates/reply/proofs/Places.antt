@@ -9,8 +9,7 @@ use native.Mathlib.Omega.{arith}
 use lib.Dec.{lit<}
 use lib.ListN.{length}
 use lib.Count.{ones, ones-step, trailingZeros}
-use Rattle.wire.specs.Told.{given, refused}
-use Rattle.codes.specs.Reading.{storageOf}
+use Rattle.wire.specs.Told.{refused}
 use Rattle.reply.specs.Media.{replyParseFailure, placesSet, onlyPlace}
 
 digit : (d : ℕ) → d < 2 → (d ≡ 0) ⊎ (d ≡ 1)
@@ -18,10 +17,10 @@ digit zero h = inl refl
 digit (suc zero) h = inr refl
 digit (suc (suc d)) h = absurd (omega arith)
 
-low-digit : (v : ℕ) → (v % 2 ≡ 0) ⊎ (v % 2 ≡ 1)
+pub low-digit : (v : ℕ) → (v % 2 ≡ 0) ⊎ (v % 2 ≡ 1)
 low-digit v = digit (v % 2) (omega arith)
 
-half-lt : (k v : ℕ) → v < 2 ^ suc k → v / 2 < 2 ^ k
+pub half-lt : (k v : ℕ) → v < 2 ^ suc k → v / 2 < 2 ^ k
 half-lt k v h = div-lt-iff-lt-mul (lit< tt) .1 (rw pow-suc at h)
 
 -- as many places as ones

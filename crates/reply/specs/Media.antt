@@ -1,7 +1,7 @@
 -- Storage: 4 bytes, little-endian, exactly one bit set; the bit's place is the index.
 -- Assumes nothing.
 use Prim.Native.Nat.{ℕ, zero, suc, _/_, _%_}
-use mathlib.Core.List.{List, [], _∷_}
+use mathlib.Core.List.{List, [], _∷_, _++_}
 use lib.Dec.{eqb}
 use Rattle.wire.specs.Told.{Told, given, refused}
 use Rattle.wire.specs.Rules.{pick}
@@ -18,7 +18,7 @@ replyParseFailure = 14
 -- the places of the bits that are set among the k lowest of v, whose lowest bit has place p
 unfoldable pub placesSet : ℕ → ℕ → ℕ → List ℕ
 placesSet zero p v = []
-placesSet (suc k) p v = pick (eqb (v % 2) 1) (p ∷ placesSet k (suc p) (v / 2)) (placesSet k (suc p) (v / 2))
+placesSet (suc k) p v = pick (eqb (v % 2) 1) (p ∷ []) [] ++ placesSet k (suc p) (v / 2)
 
 -- the only place there is names the index
 unfoldable pub onlyPlace : List ℕ → Told StorageIndex

@@ -34,7 +34,8 @@ impl Capability {
     pub fn inner(self) -> [u8; 8]
         ensures { λ r. ⌜ r ≡ self .0 ⌝ }
     {
-        self.0
+        let bytes: [u8; 8] = self.0;
+        bytes
     }
 
     fn check_flag(self, index: usize, bit: u8) -> bool

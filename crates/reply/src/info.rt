@@ -17,7 +17,8 @@ impl ChipInfo {
     pub fn inner(self) -> [u8; 16]
         ensures { λ r. ⌜ r ≡ self .0 ⌝ }
     {
-        self.0
+        let bytes: [u8; 16] = self.0;
+        bytes
     }
 }
 
@@ -33,7 +34,8 @@ impl FlashId {
     pub fn inner(self) -> [u8; 5]
         ensures { λ r. ⌜ r ≡ self .0 ⌝ }
     {
-        self.0
+        let bytes: [u8; 5] = self.0;
+        bytes
     }
 }
 
@@ -72,6 +74,7 @@ impl FlashInfo {
     pub fn inner(self) -> [u8; 11]
         ensures { λ r. ⌜ r ≡ self .0 ⌝ }
     {
-        self.0
+        let bytes: [u8; 11] = self.0;
+        bytes
     }
 }

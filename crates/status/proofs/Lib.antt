@@ -1,2 +1,6 @@
--- Laws of the status block: `Reading` by cases of the rule, `Trips` reads back what was written and writes back what was read, `Unique` that answers are equal.
+-- Laws of the status block: `Reading` by cases of the rule, `Trips` reads back what was written and writes back what was read, `Unique` that answers are equal,
+-- `Wrong` programs that the contracts rule out.
 pub mod Reading
+pub mod Trips
+pub mod Unique
+pub mod Wrong

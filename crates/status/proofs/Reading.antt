@@ -1,14 +1,14 @@
 -- Reading a status, by cases of the rule.
 -- Assumes nothing.
 use Prim.Native.Nat.{ℕ, _<_, _≤_}
-use mathlib.Core.Path.{_≡_, refl, ap, sym, _∙_}
+use mathlib.Core.Path.{_≡_, refl}
 use mathlib.Core.Bool.{true, false}
 use mathlib.Core.List.{List, [], _∷_}
 use borrow.Author.Tests.{lt-ltb, le-ltb}
 use lib.ListN.{length, getD, take}
 use Rattle.wire.specs.Told.{given, refused, andThen}
 use Rattle.wire.specs.Rules.{unless}
-use Rattle.codes.specs.Reading.{known, statusOf}
+use Rattle.codes.specs.Reading.{statusOf}
 use Rattle.codes.specs.Numbers.{statusNumber, statuses}
 use Rattle.codes.specs.declared.Status.{Status}
 use Rattle.codes.proofs.Reading.{known-refused}

@@ -1,10 +1,14 @@
 -- `protocol::CommandBlock::reset_device` meets its contract: the opcode is the value's number. Assumes nothing.
+use mathlib.Core.Path.{ap, _∙_}
 use borrow.Author.Needs.{needs}
+use Rattle.codes.specs.declared.CommandCode.the-variants.{DeviceReset}
+use Rattle.protocol.specs.Commands.{opcodeCommand}
 use Rattle.protocol.proofs.CommandBlock.reset_device.Statement.{statement}
 use Rattle.protocol.proofs.CommandBlock.reset_device.Tie as tie
 
 returns : tie.Need-returns
-returns c = cc
+returns c =
+    c .opcode-command .ensures ∙ ap (opcodeCommand (c .before .before .args .tag) DeviceReset) (c .before .number .ensures)
 
 pub reset-device-spec : {M : Type 1} → statement M
 reset-device-spec =

@@ -1,10 +1,14 @@
 -- `protocol::CommandBlock::switch_storage` meets its contract: the opcode is the value's number. Assumes nothing.
+use mathlib.Core.Path.{ap, _∙_}
 use borrow.Author.Needs.{needs}
+use Rattle.codes.specs.declared.CommandCode.the-variants.{SwitchStorage}
+use Rattle.protocol.specs.Commands.{opcodeCommand}
 use Rattle.protocol.proofs.CommandBlock.switch_storage.Statement.{statement}
 use Rattle.protocol.proofs.CommandBlock.switch_storage.Tie as tie
 
 returns : tie.Need-returns
-returns c = cc
+returns c =
+    c .opcode-command .ensures ∙ ap (opcodeCommand (c .before .before .args .tag) SwitchStorage) (c .before .number .ensures)
 
 pub switch-storage-spec : {M : Type 1} → statement M
 switch-storage-spec =

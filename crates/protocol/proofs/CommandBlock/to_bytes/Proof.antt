@@ -1,5 +1,4 @@
 -- `protocol::CommandBlock::to_bytes` meets its contract: a short buffer is left, and a longer one has the block at its front. Assumes nothing.
-use mathlib.Core.Path.{_≡_}
 use borrow.Author.Needs.{needs}
 use denote.Ref.{now}
 use Rattle.block.proofs.Writer.{writes-nothing, writes-block}

@@ -1,17 +1,13 @@
 -- `reply::media::storage_index` meets its contract: as many places are set as the word has ones, and one alone is counted by the trailing zeros.
 -- Assumes nothing.
-use Prim.Native.Nat.{ℕ, _<_, _^_}
-use mathlib.Core.Path.{_≡_, ap, sym, _∙_}
-use mathlib.Core.List.{List, [], _∷_}
+use Prim.Native.Nat.{_<_, _^_}
+use mathlib.Core.Path.{ap, sym, _∙_}
 use native.Mathlib.Nat.{zero-add}
 use native.Mathlib.Omega.{arith}
 use borrow.Author.Needs.{needs}
-use lib.Count.{ones, trailingZeros, trailing-le}
-use lib.ListN.{length}
-use Rattle.wire.specs.Told.{Told, given}
-use Rattle.wire.specs.Bytes.{fromLow}
-use Rattle.codes.specs.declared.StorageIndex.{StorageIndex}
-use Rattle.reply.specs.Media.{replyParseFailure, placesSet, onlyPlace, readStorage, storageTold}
+use lib.Count.{trailing-le}
+use Rattle.wire.specs.Told.{given}
+use Rattle.reply.specs.Media.{placesSet, onlyPlace, readStorage, storageTold}
 use Rattle.reply.proofs.Places.{places-count, one-place, not-one}
 use Rattle.reply.proofs.media.storage_index.Statement.{statement}
 use Rattle.reply.proofs.media.storage_index.Tie as tie

@@ -1,12 +1,9 @@
 -- `status::report::report_of` meets its contract: each field is read off the bytes that stand there. Assumes nothing.
 use Prim.Native.Nat.{_+_, _≤_}
-use mathlib.Core.Path.{_≡_, ap, ap₂, sym, _∙_}
-use mathlib.Core.List.{List}
 use native.Mathlib.Omega.{arith}
 use borrow.Author.Needs.{needs}
 use denote.Ref.{now}
 use lib.ListN.{length}
-use Rattle.wire.specs.Bytes.{fromLow, fromHigh}
 use Rattle.block.proofs.Short.{field-elements}
 use Rattle.status.specs.StatusBytes.{reportOf}
 use Rattle.status.proofs.report.report_of.Statement.{statement}

@@ -1,7 +1,5 @@
 -- `status::failure::UsbOperationError::from_status` meets its contract: each arm is the number that 6, 5 or 7 turns into. Assumes nothing.
-use Prim.Native.Nat.{ℕ}
 use mathlib.Core.Path.{ap, sym}
-use mathlib.Core.List.{List}
 use borrow.Author.Needs.{needs}
 use Rattle.status.specs.declared.report.CommandStatusParseError.{CommandStatusParseError}
 use Rattle.status.specs.Failure.{failureNumber, failureValues, atFinish}
