@@ -1,29 +1,27 @@
 -- One law for each branch of a definition.
 -- Assumes nothing.
 use Prim.Native.Nat.{ℕ, _+_, _-_, _<_, _≤_}
-use mathlib.Core.Path.{_≡_, refl, ap, _∙_}
-use mathlib.Core.Bool.{Bool, true, false}
+use mathlib.Core.Path.{_≡_, refl}
+use mathlib.Core.Bool.{true, false}
 use mathlib.Core.List.{List, [], _∷_, _++_}
 use native.Mathlib.Omega.{arith}
 use lib.ListN.{length, take}
 use types.Run.{OneOf, miss}
 use denote.Enum.Declared.{tagOf}
 use borrow.Author.Tests.{eq-eqb, ne-eqb, lt-ltb, le-ltb}
-use Rattle.wire.specs.Told.{Told, given, refused, andThen}
+use Rattle.wire.specs.Told.{given, refused, andThen}
 use Rattle.wire.specs.Rules.{unless}
 use Rattle.transfer.proofs.MaskRomSteps.{the-type}
 use Rattle.transfer.specs.declared.MaskRomSteps.{MaskRomSteps}
 use Rattle.transfer.specs.declared.MaskRomSteps.the-variants.{Writing, Check, Dummy, Done}
-use Rattle.transfer.specs.declared.Moved.{Moved}
-use Rattle.transfer.specs.Upload.{longest}
-use Rattle.transfer.specs.Moves.{Moves, register, movesAt}
-use Rattle.transfer.specs.Does.{Does, does}
-use Rattle.transfer.specs.Sending.{tooShort, sendStep}
+use Rattle.maskrom.specs.Answers.{longest, tooLong, closedAlready, differs, control, took, filled, writes}
+use Rattle.transfer.specs.Moves.{register, movesAt}
+use Rattle.transfer.specs.Does.{does}
+use Rattle.transfer.specs.Sending.{tooShort}
 use Rattle.transfer.proofs.Cases.{send-20, send-acts}
 use Rattle.maskrom.specs.declared.MaskRomOperation.{MaskRomOperation}
 use Rattle.maskrom.specs.declared.WholeUpload.{WholeUpload}
-use Rattle.maskrom.specs.Answers.{tooLong, closedAlready, differs, control, took, filled, writes}
-use Rattle.maskrom.specs.PartWise.{waiting, held, closed, holding, takes, partStep, asks, withMoved, closes, closeStep}
+use Rattle.maskrom.specs.PartWise.{waiting, held, closed, holding, takes, partStep, asks, withMoved, closeStep}
 use Rattle.maskrom.specs.Whole.{most, chunk, sentOn, sendsOn, wholeStep}
 
 -- what an arm of a `match` knows of the enum: its variant is one of these
@@ -83,6 +81,10 @@ module _ (m : MaskRomOperation) (ys : List ℕ) where
   pub takes-some : waiting m + length ys < 4096 → takes m ys ≡ does (took (length ys)) [] (holding m ys)
   unfolding takes
   takes-some h = rw (ne-eqb (waiting m + length ys) 4096 (omega arith))
+
+pub close-20 : (m : MaskRomOperation) (room : ℕ) → room < 4096 → closeStep m room ≡ refused tooShort []
+unfolding closeStep andThen
+close-20 m room h = rw (send-20 (m .steps) (m .checked) (m .crc) (held m) room h)
 
 pub close-acts : (m : MaskRomOperation) (room : ℕ) → 4096 ≤ room
     → let to = movesAt (m .steps) (m .checked) (m .crc) (held m) in

@@ -1,7 +1,7 @@
 -- The document's number and values of each answer.
 -- Assumes nothing.
 use Prim.Native.Nat.{ℕ}
-use mathlib.Core.List.{List, []}
+use mathlib.Core.List.{[]}
 use Rattle.wire.specs.Told.{Told, given, refused}
 use Rattle.transfer.specs.Sending.{tooShort}
 use Rattle.maskrom.specs.declared.Control.{Control}
@@ -11,6 +11,10 @@ use Rattle.maskrom.specs.declared.UploadStep.{UploadStep}
 use Rattle.maskrom.specs.declared.UploadStep.the-variants as upload
 use Rattle.maskrom.specs.declared.UploadStart.{UploadStart}
 use Rattle.maskrom.specs.declared.UploadStart.the-variants as start
+
+-- the longest image
+abbrev pub longest : ℕ
+longest = 4294967295
 
 -- image too long, already closed, lent data differs
 abbrev pub tooLong : ℕ

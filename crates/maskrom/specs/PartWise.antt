@@ -16,11 +16,10 @@ use Rattle.maskrom.specs.declared.PartStepped.{PartStepped}
 use Rattle.maskrom.specs.declared.UploadStep.{UploadStep}
 use Rattle.maskrom.specs.declared.CloseStepped.{CloseStepped}
 use Rattle.transfer.specs.declared.Moved.{Moved}
-use Rattle.transfer.specs.Upload.{blockSize, longest}
-use Rattle.transfer.specs.Moves.{register}
+use Rattle.transfer.specs.Moves.{blockSize, register}
+use Rattle.maskrom.specs.Answers.{longest, tooLong, closedAlready, control, Handed, took, filled, Asks, writes, finish}
 use Rattle.transfer.specs.Does.{Does, does}
 use Rattle.transfer.specs.Sending.{tooShort, sendStep}
-use Rattle.maskrom.specs.Answers.{tooLong, closedAlready, control, Handed, took, filled, Asks, writes, finish}
 
 abbrev pub fresh : ℕ → Bool → MaskRomOperation
 fresh area checked = record {
@@ -46,17 +45,6 @@ closed Check = true
 closed Dummy = true
 closed Done = true
 
--- the record once `ys` are taken: they stand behind the bytes that waited
-abbrev pub holding : MaskRomOperation → List ℕ → MaskRomOperation
-holding m ys = record {
-  area = m .area;
-  checked = m .checked;
-  taken = m .taken + length ys;
-  crc = register (m .checked) (m .crc) ys;
-  steps = m .steps;
-  block = held m ++ (ys ++ drop (waiting m + length ys) (m .block));
-}
-
 abbrev pub withBlock : MaskRomOperation → ℕ → ℕ → List ℕ → MaskRomOperation
 withBlock m taken crc block = record {
   area = m .area;
@@ -66,6 +54,12 @@ withBlock m taken crc block = record {
   steps = m .steps;
   block = block;
 }
+
+-- the record once `ys` are taken: they stand behind the bytes that waited
+abbrev pub holding : MaskRomOperation → List ℕ → MaskRomOperation
+holding m ys =
+    withBlock m (m .taken + length ys) (register (m .checked) (m .crc) ys)
+    (held m ++ (ys ++ drop (waiting m + length ys) (m .block)))
 
 abbrev pub parted : PartStep → MaskRomOperation → PartStepped
 parted step m = record { step = step; next = m }

@@ -16,11 +16,10 @@ use Rattle.maskrom.specs.declared.WholeStart.{WholeStart}
 use Rattle.maskrom.specs.declared.UploadStep.{UploadStep}
 use Rattle.maskrom.specs.declared.WholeStepped.{WholeStepped}
 use Rattle.transfer.specs.declared.Moved.{Moved}
-use Rattle.transfer.specs.Upload.{blockSize, longest}
-use Rattle.transfer.specs.Moves.{register}
+use Rattle.transfer.specs.Moves.{blockSize, register}
+use Rattle.maskrom.specs.Answers.{longest, tooLong, differs, startTold, Asks}
 use Rattle.transfer.specs.Does.{Does, does, said, after}
 use Rattle.transfer.specs.Sending.{tooShort, sendStep}
-use Rattle.maskrom.specs.Answers.{tooLong, differs, startTold, Asks}
 use Rattle.maskrom.specs.PartWise.{asks}
 
 abbrev pub freshWhole : ℕ → Bool → ℕ → WholeUpload

@@ -2,7 +2,6 @@
 // every step (`write_area`, `WholeUpload`).
 ghost use mathlib.Core.Path.{_≡_};
 ghost use mathlib.Core.Bool.{true, false};
-ghost use mathlib.Core.List.{[], _∷_};
 ghost use Prim.Native.Nat.{_+_, _≤_, min};
 ghost use lib.ListN.{length, take};
 ghost use Rattle.wire.specs.Told.{given};
@@ -161,15 +160,15 @@ impl MaskRomOperation {
     }
 
     // Bytes that the block has room for are put behind those that wait.
-    fn hold(self, bytes: &[u8]) -> MaskRomOperation
-        requires { ⌜ (waiting self + length (now bytes) ≤ 4096) × (self .taken + length (now bytes) ≤ 4294967295) ⌝ }
-        ensures { λ r. ⌜ r ≡ holding self (now (bytes .entry)) ⌝ }
+    fn hold(self, more: &[u8]) -> MaskRomOperation
+        requires { ⌜ (waiting self + length (now more) ≤ 4096) × (self .taken + length (now more) ≤ 4294967295) ⌝ }
+        ensures { λ r. ⌜ r ≡ holding self (now (more .entry)) ⌝ }
     {
         let at = (self.taken % 4096) as usize;
         let mut block = self.block;
-        bytes::copy(bytes, &mut block[at..]);
-        let crc = transfer::covered(self.checked, self.crc, bytes);
-        self.with(self.taken + (bytes.len() as u32), crc, block)
+        bytes::copy(more, &mut block[at..]);
+        let crc = transfer::covered(self.checked, self.crc, more);
+        self.with(self.taken + (more.len() as u32), crc, block)
     }
 
     fn after_part(self, step: PartStep) -> PartStepped
@@ -204,16 +203,16 @@ impl MaskRomOperation {
         next.after_part(PartStep::WriteControl(n, control_of(self.area, size)))
     }
 
-    fn moved_to(self, to: Moved) -> MaskRomOperation
-        ensures { λ r. ⌜ r ≡ withMoved self (to .crc) (to .steps) ⌝ }
+    fn moved_to(self, moved: Moved) -> MaskRomOperation
+        ensures { λ r. ⌜ r ≡ withMoved self (moved .crc) (moved .steps) ⌝ }
     {
-        let steps = to.steps;
+        let steps = moved.steps;
         let block = self.block;
         MaskRomOperation {
             area: self.area,
             checked: self.checked,
             taken: self.taken,
-            crc: to.crc,
+            crc: moved.crc,
             steps,
             block,
         }

@@ -2,7 +2,7 @@
 -- Assumes nothing.
 use Prim.Native.Nat.{ℕ, _<_, _≤_}
 use mathlib.Core.Path.{_≡_, refl, ap, ap₂, sym, subst, _∙_}
-use mathlib.Core.Bool.{Bool, true, false}
+use mathlib.Core.Bool.{Bool}
 use mathlib.Core.List.{List, [], _∷_, _++_}
 use native.Mathlib.Omega.{arith}
 use lib.ListN.{length}
@@ -13,8 +13,7 @@ use Rattle.wire.specs.Bytes.{front}
 use Rattle.transfer.specs.declared.Moved.{Moved}
 use Rattle.transfer.specs.declared.MaskRomSteps.{MaskRomSteps}
 use Rattle.transfer.specs.declared.MaskRomSteps.the-variants.{Writing, Check, Dummy, Done}
-use Rattle.transfer.specs.Upload.{checkBytes}
-use Rattle.transfer.specs.Moves.{Moves, register, moves, writing, movesAt, SendMeets}
+use Rattle.transfer.specs.Moves.{checkBytes, Moves, register, moves, writing, movesAt, SendMeets}
 use Rattle.transfer.specs.Does.{Does, does, said, sent, after, Meets}
 use Rattle.transfer.specs.Sending.{tooShort, moved, sendStep}
 

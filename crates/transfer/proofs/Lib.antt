@@ -1,3 +1,5 @@
--- `Lists` has laws on lists, `Cases` one law for each branch of a definition and what the promises of callers are made from.
+-- `Lists` has laws on lists, `Cases` one law for each branch of a definition and what the promises of callers are made from, `Unique` that
+-- one promise allows one answer.
 pub mod Lists
 pub mod Cases
+pub mod Unique

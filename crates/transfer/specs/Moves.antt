@@ -7,12 +7,19 @@ use lib.ListN.{length}
 use lib.Dec.{eqb}
 use mathlib.Core.Path.{_≡_}
 use Rattle.wire.specs.Rules.{pick}
-use Rattle.wire.specs.Bytes.{front}
+use Rattle.wire.specs.Bytes.{highFirst, front}
 use Rattle.crc.specs.Check.{crcOver}
 use Rattle.transfer.specs.declared.MaskRomSteps.{MaskRomSteps}
 use Rattle.transfer.specs.declared.MaskRomSteps.the-variants.{Writing, Check, Dummy, Done}
 use Rattle.transfer.specs.declared.Moved.{Moved}
-use Rattle.transfer.specs.Upload.{blockSize, checkBytes}
+
+-- the most that one transfer holds
+abbrev pub blockSize : ℕ
+blockSize = 4096
+
+-- "the check .., high byte first, or 00 00"
+unfoldable pub checkBytes : Bool → ℕ → List ℕ
+checkBytes checked crc = pick checked (highFirst 2 crc) (0 ∷ 0 ∷ [])
 
 -- the register once it covers these bytes too; without a check it stays
 unfoldable pub register : Bool → ℕ → List ℕ → ℕ

@@ -11,8 +11,7 @@ use Rattle.transfer.specs.declared.MaskRomSteps.{MaskRomSteps}
 use Rattle.transfer.specs.declared.Moved.{Moved}
 use Rattle.transfer.specs.declared.Sent.{Sent}
 use Rattle.transfer.specs.declared.Sent.the-variants as sent
-use Rattle.transfer.specs.Upload.{blockSize}
-use Rattle.transfer.specs.Moves.{Moves, movesAt}
+use Rattle.transfer.specs.Moves.{blockSize, Moves, movesAt}
 use Rattle.transfer.specs.Does.{Does, does}
 
 -- "output too short", "4,096 upload"

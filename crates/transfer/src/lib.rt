@@ -4,8 +4,7 @@ ghost use mathlib.Core.List.{[], _∷_, _++_};
 ghost use Prim.Native.Nat.{_+_, _≤_, min};
 ghost use lib.ListN.{length, take};
 ghost use Rattle.wire.specs.Bytes.{front, highFirst};
-ghost use Rattle.transfer.specs.Upload.{checkBytes};
-ghost use Rattle.transfer.specs.Moves.{register, writing, movesAt, SendMeets};
+ghost use Rattle.transfer.specs.Moves.{checkBytes, register, writing, movesAt, SendMeets};
 ghost use Rattle.transfer.specs.Does.{Meets};
 ghost use Rattle.transfer.specs.Sending.{sentTold, sendStep};
 

@@ -1,25 +1,24 @@
 -- What a record sends once it is closed: the bytes that wait and what follows the image.
 -- Assumes nothing.
-use Prim.Native.Nat.{ℕ, zero, suc, _+_, _%_, _<_, _≤_}
-use mathlib.Core.Path.{_≡_, refl, ap, ap₂, sym, subst, _∙_}
+use Prim.Native.Nat.{ℕ, _<_, _≤_}
+use mathlib.Core.Path.{_≡_, refl, ap, ap₂, sym, _∙_}
 use mathlib.Core.Bool.{Bool}
 use mathlib.Core.List.{List, [], _∷_, _++_, map, append-assoc}
 use native.Mathlib.Omega.{arith}
 use native.Mathlib.Decide.{decLt, ℕ-discrete}
-use lib.ListN.{length, take, length-append}
-use lib.Seq.{length-take-le}
+use lib.ListN.{length, length-append}
 use Rattle.wire.specs.Told.{Told, given}
 use Rattle.transfer.specs.declared.MaskRomSteps.{MaskRomSteps}
 use Rattle.transfer.specs.declared.MaskRomSteps.the-variants.{Writing, Check, Dummy, Done}
 use Rattle.maskrom.specs.declared.MaskRomOperation.{MaskRomOperation}
-use Rattle.transfer.specs.Upload.{checkBytes, cut}
-use Rattle.transfer.specs.Moves.{Moves, moves, register, writing, movesAt}
+use Rattle.transfer.specs.Moves.{checkBytes, Moves, moves, register, writing, movesAt}
+use Rattle.upload.specs.Upload.{cut}
 use Rattle.transfer.specs.Does.{Does, does}
-use Rattle.maskrom.specs.Answers.{control, Asks, writes, finish}
-use Rattle.maskrom.specs.PartWise.{waiting, held, asks, withMoved, closeStep}
+use Rattle.maskrom.specs.Answers.{control, Asks, writes}
+use Rattle.maskrom.specs.PartWise.{held, asks, withMoved, closeStep}
 use Rattle.transfer.proofs.Cases.{writing-pad, writing-dummy, writing-last}
 use Rattle.maskrom.proofs.Cases.{close-acts}
-use Rattle.upload.specs.Drive.{Transfer, transfer}
+use Rattle.upload.specs.Drive.{transfer}
 use Rattle.upload.proofs.Cutting.{cut-block, cut-short}
 use Rattle.upload.proofs.Ending.{ending, ending-pad, ending-dummy, ending-last, length-check}
 use Rattle.upload.proofs.Sends.{Sends, finishes, sends}

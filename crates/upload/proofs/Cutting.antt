@@ -1,13 +1,12 @@
 -- Cutting bytes into transfers: how many, how long, and nothing lost.
 -- Assumes nothing.
-use Prim.Native.Nat.{ℕ, zero, suc, _+_, _-_, _*_, _/_, _%_, _<_, _≤_}
-use mathlib.Core.Path.{_≡_, refl, ap, sym, _∙_}
+use Prim.Native.Nat.{ℕ, zero, suc, _+_, _/_, _%_, _<_, _≤_}
+use mathlib.Core.Path.{_≡_, refl, ap}
 use mathlib.Core.List.{List, [], _∷_, _++_, map, flatten, append-nil}
-use native.Mathlib.Numerals.{add-one}
 use native.Mathlib.Omega.{arith}
-use lib.ListN.{length, take, drop, replicate, length-append, length-drop, take-append-drop, drop-of-length-le}
+use lib.ListN.{length, take, drop, replicate, length-append, length-drop, take-append-drop}
 use lib.Seq.{take-at, drop-at, take-all, length-take-le}
-use Rattle.transfer.specs.Upload.{pieces, cut}
+use Rattle.upload.specs.Upload.{pieces, cut}
 
 pub cut-block : (b rest : List ℕ) → length b ≡ 4096 → cut (b ++ rest) ≡ b ∷ cut rest
 unfolding cut pieces

@@ -1,20 +1,20 @@
 -- What follows the image: pad, check and last zero, as a function of the register over the image and of its length.
 -- Assumes nothing.
-use Prim.Native.Nat.{ℕ, zero, suc, _+_, _/_, _%_, _<_, _≤_}
-use mathlib.Core.Path.{_≡_, refl, ap, sym, _∙_}
+use Prim.Native.Nat.{ℕ, _+_, _%_, _<_, _≤_}
+use mathlib.Core.Path.{_≡_, refl, ap, _∙_}
 use mathlib.Core.Bool.{Bool, true, false}
 use mathlib.Core.List.{List, [], _∷_, _++_, append-assoc, append-nil}
 use native.Mathlib.Omega.{arith}
 use lib.ListN.{length, length-append}
 use lib.Dec.{eqb}
-use borrow.Author.Tests.{eq-eqb, ne-eqb}
+use borrow.Author.Tests.{ne-eqb}
 use Rattle.wire.specs.Rules.{pick}
 use Rattle.wire.specs.Bytes.{highFirst}
 use Rattle.wire.proofs.Order.{length-high-first}
-use Rattle.crc.specs.Check.{start, crcOver, check}
+use Rattle.crc.specs.Check.{start, check}
 use Rattle.crc.proofs.Laws.{over-append, over-empty}
-use Rattle.transfer.specs.Upload.{pad, checkBytes, lastZero, uploadBytes}
-use Rattle.transfer.specs.Moves.{register}
+use Rattle.transfer.specs.Moves.{checkBytes, register}
+use Rattle.upload.specs.Upload.{pad, lastZero, uploadBytes}
 
 pub register-empty : (checked : Bool) (crc : ℕ) → register checked crc [] ≡ crc
 unfolding register

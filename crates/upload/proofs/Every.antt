@@ -1,14 +1,15 @@
 -- What holds at every record, also at those that no fresh start makes: the finish repeats for ever, and no call writes past the first 4,096 output bytes.
 -- Assumes nothing.
-use Prim.Native.Nat.{ℕ, zero, suc, _+_, _-_, _/_, _%_, _<_, _≤_}
-use mathlib.Core.Path.{_≡_, refl, ap, ap₂, sym, subst, _∙_}
+use Prim.Native.Nat.{ℕ, _+_, _-_, _<_, _≤_}
+use mathlib.Core.Path.{_≡_, refl, ap, ap₂, sym, _∙_}
 use mathlib.Core.Bool.{Bool, true, false, not}
 use mathlib.Core.List.{List, [], _∷_, _++_}
 use native.Mathlib.Nat.{add-zero}
 use native.Mathlib.Omega.{arith}
 use native.Mathlib.Decide.{ℕ-discrete}
-use lib.ListN.{length, take, drop, length-append, length-take}
+use lib.ListN.{length, take, length-append, length-take}
 use lib.Dec.{eqb, ltb}
+use borrow.Author.Tests.{lt-ltb}
 use Rattle.wire.specs.Told.{Told, given, refused, andThen}
 use Rattle.wire.specs.Rules.{Rule, rule, unless, pick}
 use Rattle.transfer.specs.declared.Moved.{Moved}
@@ -16,15 +17,14 @@ use Rattle.transfer.specs.declared.MaskRomSteps.{MaskRomSteps}
 use Rattle.transfer.specs.declared.MaskRomSteps.the-variants.{Writing, Check, Dummy, Done}
 use Rattle.maskrom.specs.declared.MaskRomOperation.{MaskRomOperation}
 use Rattle.maskrom.specs.declared.WholeUpload.{WholeUpload}
-use Rattle.transfer.specs.Upload.{blockSize, longest}
-use Rattle.transfer.specs.Moves.{Moves, moves, register, writing, movesAt}
-use Rattle.transfer.specs.Does.{Does, does, said, sent, after}
+use Rattle.transfer.specs.Moves.{blockSize, moves, register, writing, movesAt}
+use Rattle.maskrom.specs.Answers.{longest, tooLong, closedAlready, differs, control, took, filled, finish}
+use Rattle.transfer.specs.Does.{Does, does, sent, after}
 use Rattle.transfer.specs.Sending.{tooShort, moved, sendStep}
-use Rattle.maskrom.specs.Answers.{tooLong, closedAlready, differs, control, took, filled, finish}
 use Rattle.maskrom.specs.PartWise.{waiting, held, closed, holding, takes, partStep, asks, withMoved, closeStep}
-use Rattle.maskrom.specs.Whole.{most, chunk, sentOn, sendsOn, wholeStep}
+use Rattle.maskrom.specs.Whole.{freshWhole, startStep, most, chunk, sentOn, sendsOn, wholeStep}
 use Rattle.transfer.proofs.Cases.{writing-block, writing-pad, writing-dummy, writing-last}
-use Rattle.maskrom.proofs.Cases.{most-block}
+use Rattle.maskrom.proofs.Cases.{most-block, whole-27}
 use Rattle.upload.proofs.Closing.{close-goes}
 use Rattle.upload.proofs.WholeImage.{whole-goes}
 use Rattle.upload.proofs.Ending.{length-check, register-empty}
@@ -44,6 +44,12 @@ unfolding asks movesAt most
 whole-repeats u image room e l h =
     whole-goes image u Done [] (u .crc) (moves [] (u .crc) Done) l e refl (register-empty (u .checked) (u .crc)) refl room h
     ∙ ap₂ (λ (n : ℕ) (s : MaskRomSteps). given (does finish [] (reached u n s))) (add-zero (u .taken)) (sym e)
+
+-- beside a refused start stands a record at which the refused image differs
+pub refused-start : (area : ℕ) (checked : Bool) (image : List ℕ) (room : ℕ) → longest < length image → blockSize ≤ room
+    → wholeStep (after (freshWhole area checked 0) (startStep area checked image)) image room ≡ refused differs []
+unfolding startStep unless after
+refused-start area checked image room l h = rw (lt-ltb longest (length image) l) (whole-27 (freshWhole area checked 0) image room h (omega arith))
 
 -- at most a block is written: by a step of which every branch writes no more
 few-pick : {A R : Type 0} (b : Bool) (x y : Told (Does A R)) → length (sent x) ≤ 4096 → length (sent y) ≤ 4096 → length (sent (pick b x y)) ≤ 4096

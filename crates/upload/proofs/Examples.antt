@@ -1,6 +1,6 @@
 -- The document's P3 to P8, and the two longest images.
 -- Assumes nothing.
-use Prim.Native.Nat.{ℕ, zero, suc, _+_, _/_, _%_, _<_, _≤_}
+use Prim.Native.Nat.{ℕ, _+_, _/_, _%_, _≤_}
 use mathlib.Core.Path.{_≡_, refl, ap, ap₂, _∙_}
 use mathlib.Core.Bool.{Bool, true, false}
 use mathlib.Core.List.{List, [], _∷_, _++_, map, flatten}
@@ -8,8 +8,10 @@ use native.Mathlib.Omega.{arith}
 use lib.ListN.{length, replicate}
 use Rattle.wire.specs.Bytes.{lowFirst, highFirst}
 use Rattle.crc.specs.Check.{crcOver}
-use Rattle.transfer.specs.Upload.{blockSize, longest, pad, checkBytes, lastZero, uploadBytes, pieces, cut}
-use Rattle.upload.specs.Drive.{Transfer, transfer, Drive, ended, driveParts, transfersOf}
+use Rattle.transfer.specs.Moves.{blockSize, checkBytes}
+use Rattle.maskrom.specs.Answers.{longest}
+use Rattle.upload.specs.Upload.{pad, lastZero, uploadBytes, pieces, cut}
+use Rattle.upload.specs.Drive.{transfer, ended, driveParts, transfersOf}
 use Rattle.upload.proofs.Theorems.{any-cut, total, how-many, sizes}
 
 -- P3, P4: the empty image

@@ -1,22 +1,20 @@
 -- What a part-wise upload has still to send, whatever it has taken: the bytes that wait, those that come, and what follows the image.
 -- Assumes nothing.
-use Prim.Native.Nat.{ℕ, zero, suc, _+_, _-_, _/_, _%_, _<_, _≤_, min}
-use mathlib.Core.Path.{_≡_, refl, ap, ap₂, sym, subst, _∙_}
-use mathlib.Core.Bool.{Bool, false}
-use mathlib.Core.List.{List, [], _∷_, _++_, map, flatten, append-assoc, append-nil}
-use native.Mathlib.Nat.{add-assoc}
+use Prim.Native.Nat.{ℕ, zero, suc, _+_, _-_, _%_, _<_, _≤_, min}
+use mathlib.Core.Path.{_≡_, refl, ap, sym, _∙_}
+use mathlib.Core.List.{List, [], _∷_, _++_, map, flatten, append-assoc}
 use native.Mathlib.Omega.{arith}
 use native.Mathlib.Decide.{decLt}
-use lib.ListN.{length, take, drop, length-append, length-take, length-drop, length-map, take-append-drop, drop-of-length-le}
-use lib.Seq.{length-take-le, take-all, take-at}
-use Rattle.wire.specs.Told.{Told, given}
+use lib.ListN.{length, take, drop, length-append, length-take, length-drop, length-map, take-append-drop}
+use lib.Seq.{length-take-le, take-at}
+use Rattle.wire.specs.Told.{given}
 use Rattle.wire.specs.Bytes.{front}
 use Rattle.transfer.specs.declared.MaskRomSteps.the-variants.{Writing}
 use Rattle.maskrom.specs.declared.MaskRomOperation.{MaskRomOperation}
-use Rattle.transfer.specs.Upload.{longest, cut}
+use Rattle.maskrom.specs.Answers.{longest, control, took, filled}
+use Rattle.upload.specs.Upload.{cut}
 use Rattle.transfer.specs.Moves.{register}
-use Rattle.transfer.specs.Does.{Does, does, said, sent, after}
-use Rattle.maskrom.specs.Answers.{control, Handed, took, filled}
+use Rattle.transfer.specs.Does.{does, said, sent, after}
 use Rattle.maskrom.specs.PartWise.{waiting, held, closed, holding, takes, partStep, closeStep}
 use Rattle.transfer.proofs.Lists.{take-min}
 use Rattle.maskrom.proofs.Lists.{filled-length}

@@ -1,7 +1,7 @@
 -- Stepping to the finish: what a record sends, and how many calls it takes.
 -- Assumes nothing.
-use Prim.Native.Nat.{ℕ, zero, suc, _+_, _<_, _≤_}
-use mathlib.Core.Path.{_≡_, refl, ap, ap₂, sym, _∙_}
+use Prim.Native.Nat.{ℕ, zero, suc, _<_, _≤_}
+use mathlib.Core.Path.{_≡_, refl, ap, _∙_}
 use mathlib.Core.List.{List, [], _∷_}
 use native.Mathlib.Omega.{arith}
 use lib.ListN.{length, take, drop, length-append, length-drop}
@@ -10,7 +10,7 @@ use Rattle.wire.specs.Told.{Told, given}
 use Rattle.wire.specs.Bytes.{front}
 use Rattle.transfer.specs.Does.{Does, does, said, sent, after}
 use Rattle.maskrom.specs.Answers.{control, Asks, writes, finish}
-use Rattle.upload.specs.Drive.{Transfer, transfer, Drive, ended, stopped, unending, sending, onStep, stepThrough}
+use Rattle.upload.specs.Drive.{Transfer, transfer, ended, unending, sending, onStep, stepThrough}
 
 -- stepping `r` sends these and then finishes, with any output that is long enough
 pub data Sends {R : Type 0} (step : R → ℕ → Told (Does Asks R)) : R → List Transfer → Type 0 where

@@ -1,8 +1,8 @@
 -- What the upload is for: any cut of any image gives the same transfers as the whole image, and they are the upload's bytes.
 -- Assumes nothing.
-use Prim.Native.Nat.{ℕ, zero, suc, _+_, _/_, _%_, _<_, _≤_}
+use Prim.Native.Nat.{ℕ, _+_, _/_, _%_, _<_, _≤_}
 use mathlib.Core.Path.{_≡_, refl, ap, sym, _∙_}
-use mathlib.Core.Bool.{Bool, true, false}
+use mathlib.Core.Bool.{Bool}
 use mathlib.Core.List.{List, [], _∷_, _++_, map, flatten}
 use native.Mathlib.Nat.{zero-add}
 use native.Mathlib.Omega.{arith}
@@ -10,20 +10,21 @@ use lib.ListN.{length, replicate, length-map, length-append, length-replicate}
 use native.Mathlib.Decide.{ℕ-discrete}
 use borrow.Author.Tests.{le-ltb, ne-eqb}
 use Rattle.wire.specs.Rules.{unless}
-use Rattle.wire.specs.Told.{Told, given}
+use Rattle.wire.specs.Told.{given}
 use Rattle.crc.specs.Check.{start}
 use Rattle.maskrom.specs.declared.WholeUpload.{WholeUpload}
-use Rattle.transfer.specs.Upload.{blockSize, longest, pad, lastZero, uploadBytes, cut}
-use Rattle.transfer.specs.Moves.{register}
-use Rattle.transfer.specs.Does.{Does, does, said, after}
+use Rattle.transfer.specs.Moves.{blockSize, register}
+use Rattle.maskrom.specs.Answers.{longest}
+use Rattle.upload.specs.Upload.{pad, lastZero, uploadBytes, cut}
+use Rattle.transfer.specs.Does.{does, said, after}
 use Rattle.maskrom.specs.PartWise.{fresh}
 use Rattle.maskrom.specs.Whole.{freshWhole, startStep, wholeStep}
-use Rattle.upload.specs.Drive.{Transfer, transfer, Drive, ended, unending, onStart, stepThrough, driveParts, driveWhole, transfersOf}
+use Rattle.upload.specs.Drive.{Transfer, transfer, ended, unending, onStart, driveParts, driveWhole, transfersOf}
 use Rattle.upload.proofs.Cutting.{cut-many, cut-sizes, cut-joins}
 use Rattle.upload.proofs.Ending.{ending, upload-ending, length-ending}
 use Rattle.upload.proofs.Sends.{Sends, enough, needed}
 use Rattle.upload.proofs.WholeImage.{image-sends}
-use Rattle.upload.proofs.Parts.{left, due, parts-end}
+use Rattle.upload.proofs.Parts.{left, parts-end}
 
 -- DEMAND 3. An image of at most 4,294,967,295 bytes, cut into parts in any way, empty ones too: handed over in order to a fresh upload, with an output of a block
 -- at least and re-handing what was not taken, then closed and stepped to the finish. No call is refused, the driving ends, and the transfers are those of the

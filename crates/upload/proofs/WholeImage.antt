@@ -1,9 +1,8 @@
 -- What a whole upload has still to send: what is left of the image and what follows it.
 -- Assumes nothing.
 use Prim.Native.Nat.{ℕ, zero, suc, _+_, _-_, _/_, _%_, _<_, _≤_}
-use mathlib.Core.Path.{_≡_, refl, ap, ap₂, sym, subst, _∙_}
-use mathlib.Core.Bool.{Bool}
-use mathlib.Core.List.{List, [], _∷_, _++_, map, append-assoc}
+use mathlib.Core.Path.{_≡_, refl, ap, ap₂, sym, _∙_}
+use mathlib.Core.List.{List, [], _∷_, _++_, map}
 use native.Mathlib.Omega.{arith}
 use lib.ListN.{length, take, drop, length-drop, take-append-drop}
 use lib.Seq.{length-take-le, take-all, drop-drop}
@@ -11,15 +10,15 @@ use Rattle.wire.specs.Told.{Told, given}
 use Rattle.transfer.specs.declared.MaskRomSteps.{MaskRomSteps}
 use Rattle.transfer.specs.declared.MaskRomSteps.the-variants.{Writing, Check, Dummy, Done}
 use Rattle.maskrom.specs.declared.WholeUpload.{WholeUpload}
-use Rattle.transfer.specs.Upload.{checkBytes, cut}
-use Rattle.transfer.specs.Moves.{Moves, moves, register, writing, movesAt}
+use Rattle.transfer.specs.Moves.{checkBytes, Moves, moves, register, movesAt}
+use Rattle.upload.specs.Upload.{cut}
 use Rattle.transfer.specs.Does.{Does, does}
-use Rattle.maskrom.specs.Answers.{control, Asks, writes, finish}
+use Rattle.maskrom.specs.Answers.{Asks}
 use Rattle.maskrom.specs.PartWise.{asks}
-use Rattle.maskrom.specs.Whole.{most, chunk, sentOn, sendsOn, wholeStep}
+use Rattle.maskrom.specs.Whole.{most, sentOn, sendsOn, wholeStep}
 use Rattle.transfer.proofs.Cases.{writing-block}
 use Rattle.maskrom.proofs.Cases.{whole-sends, sends-acts}
-use Rattle.upload.specs.Drive.{Transfer, transfer}
+use Rattle.upload.specs.Drive.{transfer}
 use Rattle.upload.proofs.Cutting.{cut-block}
 use Rattle.upload.proofs.Ending.{register-empty, ending, regroup, ending-same, length-check}
 use Rattle.upload.proofs.Sends.{Sends, finishes, sends}

@@ -9,7 +9,7 @@ use Rattle.wire.specs.Bytes.{front}
 use Rattle.maskrom.specs.declared.Control.{Control}
 use Rattle.maskrom.specs.declared.MaskRomOperation.{MaskRomOperation}
 use Rattle.maskrom.specs.declared.WholeUpload.{WholeUpload}
-use Rattle.transfer.specs.Upload.{uploadBytes, cut}
+use Rattle.upload.specs.Upload.{uploadBytes, cut}
 use Rattle.transfer.specs.Does.{Does, said, sent, after}
 use Rattle.maskrom.specs.Answers.{control, Handed, took, filled, Asks, writes, finish}
 use Rattle.maskrom.specs.PartWise.{fresh, partStep, closeStep}

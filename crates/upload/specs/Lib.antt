@@ -1,2 +1,3 @@
--- What somebody sees who hands an image over to the end.
+-- `Upload` is what goes over the wire, `Drive` what somebody sees who hands an image over to the end.
+pub mod Upload
 pub mod Drive

@@ -1,11 +1,11 @@
 -- `Done` asks for nothing any more, every other place for a control write (`asks-write`).
 -- Assumes nothing.
 use borrow.Author.Needs.{needs}
-use mathlib.Core.Path.{_≡_, refl, ap, sym, _∙_}
-use Rattle.wire.specs.Told.{Told, given}
+use mathlib.Core.Path.{ap, sym}
+use Rattle.wire.specs.Told.{given}
 use Rattle.transfer.specs.declared.MaskRomSteps.{MaskRomSteps}
 use Rattle.maskrom.specs.declared.Control.{Control}
-use Rattle.maskrom.specs.Answers.{stepTold, Asks, writes}
+use Rattle.maskrom.specs.Answers.{stepTold, writes}
 use Rattle.maskrom.specs.PartWise.{asks}
 use Rattle.maskrom.proofs.Cases.{asks-write}
 use Rattle.maskrom.proofs.asked.Statement.{statement}

@@ -1,7 +1,7 @@
 -- A block at most while the image is written, and nothing once it is (`sends-none`).
 -- Assumes nothing.
-use Prim.Native.Nat.{ℕ, min}
-use mathlib.Core.Path.{_≡_, ap, sym, _∙_}
+use Prim.Native.Nat.{min}
+use mathlib.Core.Path.{ap, sym, _∙_}
 use native.Mathlib.Omega.{arith}
 use borrow.Author.Needs.{needs}
 use Rattle.transfer.specs.declared.MaskRomSteps.{MaskRomSteps}

@@ -1,16 +1,13 @@
 -- The test is the rule of 25; beside it stands a fresh record of length 0, else one of the length of the image.
 -- Assumes nothing.
 use borrow.Author.Needs.{needs}
-use native.Mathlib.Omega.{arith}
 use borrow.Author.Tests.{lt-ltb, le-ltb}
-use mathlib.Core.Path.{_≡_, refl}
 use denote.Ref.{now}
 use lib.ListN.{length}
 use Rattle.wire.specs.Rules.{unless}
-use Rattle.transfer.specs.Upload.{longest}
+use Rattle.maskrom.specs.Answers.{longest, startTold}
 use Rattle.transfer.specs.Does.{said, after}
-use Rattle.maskrom.specs.Answers.{startTold}
-use Rattle.maskrom.specs.Whole.{startStep, StartMeets}
+use Rattle.maskrom.specs.Whole.{startStep}
 use Rattle.maskrom.proofs.start_whole.Statement.{statement}
 use Rattle.maskrom.proofs.start_whole.Tie as tie
 

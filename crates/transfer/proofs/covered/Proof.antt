@@ -1,7 +1,6 @@
 -- With a check the register is what `crc` makes of it, without one it stays.
 -- Assumes nothing.
 use borrow.Author.Needs.{needs}
-use mathlib.Core.Path.{_≡_, refl}
 use Rattle.transfer.specs.Moves.{register}
 use Rattle.transfer.proofs.covered.Statement.{statement}
 use Rattle.transfer.proofs.covered.Tie as tie

@@ -3,13 +3,12 @@
 use Prim.Native.Nat.{ℕ, min}
 use mathlib.Core.Path.{_≡_, refl, ap, sym, subst, _∙_}
 use mathlib.Core.List.{List}
-use native.Mathlib.Omega.{arith}
 use borrow.Author.Needs.{needs}
 use denote.Ref.{now}
 use lib.ListN.{length, take}
 use Rattle.wire.specs.Told.{given}
 use Rattle.transfer.specs.declared.Moved.{Moved}
-use Rattle.transfer.specs.Moves.{Moves, movesAt, SendMeets}
+use Rattle.transfer.specs.Moves.{movesAt, SendMeets}
 use Rattle.transfer.specs.Does.{does}
 use Rattle.transfer.specs.Sending.{tooShort, sentTold, moved}
 use Rattle.transfer.proofs.Lists.{take-min}

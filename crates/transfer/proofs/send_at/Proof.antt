@@ -1,14 +1,12 @@
 -- Each arm is the case of `movesAt` for its variant (`at-steps`), with the bytes that `put` was given.
 -- Assumes nothing.
-use Prim.Native.Nat.{ℕ}
-use mathlib.Core.Path.{_≡_, refl, ap, sym, _∙_}
-use mathlib.Core.List.{List, [], _∷_}
+use mathlib.Core.Path.{refl, _∙_}
+use mathlib.Core.List.{[], _∷_}
 use borrow.Author.Needs.{needs}
 use denote.Ref.{now}
 use lib.ListN.{take}
 use Rattle.transfer.specs.declared.MaskRomSteps.the-variants.{Done}
-use Rattle.transfer.specs.Upload.{checkBytes}
-use Rattle.transfer.specs.Moves.{movesAt}
+use Rattle.transfer.specs.Moves.{checkBytes, movesAt}
 use Rattle.transfer.proofs.Cases.{meets, at-steps}
 use Rattle.transfer.proofs.send_at.Statement.{statement}
 use Rattle.transfer.proofs.send_at.Tie as tie

@@ -1,8 +1,7 @@
 -- The register with a check, and 0 without, whose two bytes are 00 00.
 -- Assumes nothing.
-use mathlib.Core.Path.{refl}
 use Rattle.wire.specs.Bytes.{lowFirst, highFirst}
-use Rattle.transfer.specs.Upload.{checkBytes}
+use Rattle.transfer.specs.Moves.{checkBytes}
 use Rattle.transfer.proofs.shown.Statement.{statement}
 use Rattle.transfer.proofs.shown.Tie as tie
 

@@ -1,7 +1,6 @@
 -- A store behind the first n bytes (`take-set`).
 -- Assumes nothing.
 use borrow.Author.Needs.{needs}
-use native.Mathlib.Omega.{arith}
 use Prim.Native.Nat.{_<_}
 use lib.ListN.{length}
 use Rattle.transfer.proofs.Lists.{take-set}

@@ -1,7 +1,7 @@
 -- The bytes are as many as n says, so each `return` is the case of `writing` for that n, with the bytes that `put` was given.
 -- Assumes nothing.
 use Prim.Native.Nat.{ℕ, _+_, _<_}
-use mathlib.Core.Path.{_≡_, refl, ap, sym, _∙_}
+use mathlib.Core.Path.{_≡_, refl, ap, _∙_}
 use mathlib.Core.List.{List, _++_, [], _∷_}
 use native.Mathlib.Omega.{arith}
 use borrow.Author.Needs.{needs}
@@ -10,8 +10,7 @@ use lib.ListN.{length, take}
 use lib.Seq.{length-take-le}
 use Rattle.transfer.specs.declared.MaskRomSteps.{MaskRomSteps}
 use Rattle.transfer.specs.declared.MaskRomSteps.the-variants.{Writing, Check, Dummy, Done}
-use Rattle.transfer.specs.Upload.{checkBytes}
-use Rattle.transfer.specs.Moves.{register, moves, SendMeets}
+use Rattle.transfer.specs.Moves.{checkBytes, register, moves, SendMeets}
 use Rattle.transfer.proofs.Cases.{writing-block, writing-pad, writing-dummy, writing-last, meets}
 use Rattle.transfer.proofs.write_on.Statement.{statement}
 use Rattle.transfer.proofs.write_on.Tie as tie

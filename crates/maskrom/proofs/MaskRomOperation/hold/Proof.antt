@@ -1,13 +1,12 @@
 -- What comes back of the lent part has the bytes behind those that waited (`put-mid`); the rest of the record is rebuilt as `holding` says.
 -- Assumes nothing.
-use Prim.Native.Nat.{ℕ, _+_, _≤_, _%_}
+use Prim.Native.Nat.{_+_, _%_}
 use mathlib.Core.Path.{_≡_, ap₂, _∙_}
-use mathlib.Core.List.{List}
 use native.Mathlib.Omega.{arith}
 use borrow.Author.Needs.{needs}
 use denote.Ref.{now}
 use lib.ListN.{length}
-use Rattle.maskrom.specs.PartWise.{withBlock, holding}
+use Rattle.maskrom.specs.PartWise.{withBlock}
 use Rattle.maskrom.proofs.Lists.{put-mid}
 use Rattle.maskrom.proofs.MaskRomOperation.hold.Statement.{statement}
 use Rattle.maskrom.proofs.MaskRomOperation.hold.Tie as tie
@@ -20,7 +19,7 @@ returns c =
     let k = c .before .before .before .before in
     let s = k .before .before .before .before .before in
     let m = s .args .self in
-    let ys = now (s .args .bytes) in
+    let ys = now (s .args .more) in
     c .with .ensures
     ∙ ap₂ (withBlock m (m .taken + length ys)) (c .before .before .covered .ensures)
     (put-mid (m .block) (m .taken % 4096) ys (k .copy .last .1 .0) (block-long s) (s .pre .0) (k .copy .ensures .1))

@@ -1,7 +1,7 @@
 -- Each test is a rule in the document's order. Past them as many bytes are taken as the block has room for, which are the definition's
 -- (`take-min`), and where they fill it the output begins with the block (`filled-block`).
 -- Assumes nothing.
-use Prim.Native.Nat.{ℕ, _+_, _-_, _≤_, _<_, _%_}
+use Prim.Native.Nat.{ℕ, _+_, _-_, _<_}
 use mathlib.Core.Path.{_≡_, refl, ap, ap₂, sym, _∙_}
 use mathlib.Core.Bool.{false}
 use mathlib.Core.List.{List, [], _++_}
@@ -9,16 +9,14 @@ use native.Mathlib.Omega.{arith}
 use borrow.Author.Needs.{needs}
 use denote.Ref.{now}
 use lib.ListN.{length, take, length-take}
-use Rattle.wire.specs.Told.{Told, given}
+use Rattle.wire.specs.Told.{given}
 use Rattle.wire.specs.Bytes.{front}
-use Rattle.transfer.specs.declared.MaskRomSteps.{MaskRomSteps}
 use Rattle.maskrom.specs.declared.MaskRomOperation.{MaskRomOperation}
 use Rattle.maskrom.specs.declared.Control.{Control}
 use Rattle.maskrom.specs.declared.PartStepped.{PartStepped}
-use Rattle.transfer.specs.Upload.{longest}
+use Rattle.maskrom.specs.Answers.{tooLong, closedAlready, control, took, filled, partTold}
 use Rattle.transfer.specs.Sending.{tooShort}
-use Rattle.transfer.specs.Does.{Does, does}
-use Rattle.maskrom.specs.Answers.{tooLong, closedAlready, control, took, filled, partTold, Handed}
+use Rattle.transfer.specs.Does.{does}
 use Rattle.maskrom.specs.PartWise.{waiting, held, closed, holding, takes, partStep}
 use Rattle.maskrom.proofs.Lists.{filled-block, filled-length}
 use Rattle.transfer.proofs.Lists.{take-min, copied}

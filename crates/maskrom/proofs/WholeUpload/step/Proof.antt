@@ -6,15 +6,15 @@ use mathlib.Core.List.{List}
 use native.Mathlib.Omega.{arith}
 use borrow.Author.Needs.{needs}
 use denote.Ref.{now}
-use lib.ListN.{length, take, drop, length-take, length-drop}
-use Rattle.wire.specs.Told.{Told, given}
+use lib.ListN.{length, take, drop, length-take}
+use Rattle.wire.specs.Told.{Told}
 use Rattle.maskrom.specs.declared.WholeUpload.{WholeUpload}
 use Rattle.maskrom.specs.declared.WholeStepped.{WholeStepped}
 use Rattle.transfer.specs.Does.{Does, Meets}
 use Rattle.transfer.specs.Sending.{tooShort}
 use Rattle.transfer.proofs.Cases.{keeps}
 use Rattle.maskrom.specs.Answers.{differs, stepTold, Asks}
-use Rattle.maskrom.specs.Whole.{most, chunk, sendsOn, wholeStep}
+use Rattle.maskrom.specs.Whole.{most, chunk, sendsOn}
 use Rattle.maskrom.proofs.Lists.{part-of}
 use Rattle.maskrom.proofs.Cases.{most-block, whole-20, whole-27, whole-sends}
 use Rattle.maskrom.proofs.WholeUpload.step.Statement.{statement}

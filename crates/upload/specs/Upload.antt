@@ -6,24 +6,12 @@ use mathlib.Core.List.{List, [], _∷_, _++_}
 use lib.ListN.{length, take, drop}
 use lib.Dec.{eqb}
 use Rattle.wire.specs.Rules.{pick}
-use Rattle.wire.specs.Bytes.{highFirst}
 use Rattle.crc.specs.Check.{check}
-
--- the most that one transfer holds
-abbrev pub blockSize : ℕ
-blockSize = 4096
-
--- the longest image
-abbrev pub longest : ℕ
-longest = 4294967295
+use Rattle.transfer.specs.Moves.{blockSize, checkBytes}
 
 -- "a zero if its length mod 4,096 is 4,095"
 unfoldable pub pad : ℕ → List ℕ
 pad n = pick (eqb (n % blockSize) 4095) (0 ∷ []) []
-
--- "the check .., high byte first, or 00 00"
-unfoldable pub checkBytes : Bool → ℕ → List ℕ
-checkBytes checked crc = pick checked (highFirst 2 crc) (0 ∷ 0 ∷ [])
 
 -- "a zero if the length mod 4,096 is 4,094"
 unfoldable pub lastZero : ℕ → List ℕ
