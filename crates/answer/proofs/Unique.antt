@@ -1,0 +1,75 @@
+-- Number and values tell an answer whole, so two answers allowed by one contract are equal.
+-- Assumes nothing.
+use Prim.Native.Nat.{ℕ}
+use mathlib.Core.Path.{_≡_, refl, ap, ap₂, sym, _∙_}
+use mathlib.Core.List.{List, [], _∷_}
+use lib.Dec.{eqb}
+use lib.ListN.{getD, drop}
+use Rattle.wire.specs.Told.{Told, given, refused}
+use Rattle.wire.specs.Rules.{pick}
+use Rattle.codes.specs.Numbers.{codeNumber}
+use Rattle.codes.specs.Reading.{codeOf}
+use Rattle.codes.proofs.Back.{code-back}
+use Rattle.codes.specs.declared.CommandCode.{CommandCode}
+use Rattle.codes.specs.declared.CommandCode.the-variants.{TestUnitReady}
+use Rattle.protocol.specs.CommandMeets.{commandErrorNumber, commandErrorValues}
+use Rattle.protocol.specs.declared.CommandBlockParseError.{CommandBlockParseError}
+use Rattle.protocol.specs.declared.CommandBlockParseError.the-variants.{InvalidSignature, UnknownCommandCode, UnknownFlags, InvalidLength}
+use Rattle.answer.specs.Told.{errorNumber, errorValues, resultTold, Answers}
+use Rattle.answer.specs.declared.error.MockTransportError.{MockTransportError}
+use Rattle.answer.specs.declared.error.MockTransportError.the-variants.{InvalidTransferLength, UnsupportedControl, InvalidReset, UnknownCommand, UnexpectedRead, UnexpectedWrite, CommandBlockError, OutOfRange, NoSlot, SlotFull, FlashSize, TooManySectors, StoreLength}
+use Rattle.answer.specs.declared.error.MockResult.{MockResult}
+use Rattle.answer.specs.declared.error.MockResult.the-variants.{Done, Refused}
+use Rattle.answer.specs.declared.error.MockAnswer.{MockAnswer}
+
+codeIn : Told CommandCode → CommandCode
+codeIn (given code) = code
+codeIn (refused number values) = TestUnitReady
+
+innerFrom : ℕ → ℕ → CommandBlockParseError
+innerFrom number value =
+    pick (eqb number 1) (InvalidLength value) (pick (eqb number 2) InvalidSignature (pick (eqb number 3) (UnknownFlags value) (UnknownCommandCode value)))
+
+-- the refusal whose number and first three values these are
+unfoldable pub errorFrom : ℕ → ℕ → ℕ → ℕ → MockTransportError
+unfolding codeIn innerFrom
+errorFrom n a b c =
+    pick (eqb n 50) (InvalidTransferLength a b) (pick (eqb n 51) (UnsupportedControl a b c) (pick (eqb n 52) (InvalidReset a)
+    (pick (eqb n 53) (UnknownCommand (codeIn (codeOf a))) (pick (eqb n 54) UnexpectedRead (pick (eqb n 55) UnexpectedWrite
+    (pick (eqb n 56) (CommandBlockError (innerFrom a b)) (pick (eqb n 57) OutOfRange (pick (eqb n 58) NoSlot (pick (eqb n 59) SlotFull
+    (pick (eqb n 60) (FlashSize a) (pick (eqb n 61) TooManySectors StoreLength)))))))))))
+
+unfoldable pub resultFrom : Told Unit → MockResult
+resultFrom (given done) = Done
+resultFrom (refused n values) = Refused (errorFrom n (getD values 0 0) (getD values 1 0) (getD values 2 0))
+
+inner-from : (error : CommandBlockParseError) (signature : List ℕ)
+    → innerFrom (commandErrorNumber error) (getD (commandErrorValues error signature) 0 0) ≡ error
+unfolding innerFrom commandErrorNumber commandErrorValues
+inner-from (InvalidLength n) signature = refl
+inner-from InvalidSignature signature = refl
+inner-from (UnknownFlags byte) signature = refl
+inner-from (UnknownCommandCode byte) signature = refl
+
+pub result-from : (result : MockResult) (signature : List ℕ) → resultFrom (resultTold result signature) ≡ result
+unfolding resultFrom errorFrom resultTold errorValues codeIn
+result-from Done signature = refl
+result-from (Refused (InvalidTransferLength expected actual)) signature = refl
+result-from (Refused (UnsupportedControl type request value)) signature = refl
+result-from (Refused (InvalidReset opcode)) signature = refl
+result-from (Refused (UnknownCommand code)) signature = ap (λ (t : Told CommandCode). Refused (UnknownCommand (codeIn t))) (code-back code)
+result-from (Refused UnexpectedRead) signature = refl
+result-from (Refused UnexpectedWrite) signature = refl
+result-from (Refused (CommandBlockError error)) signature = ap (λ (e : CommandBlockParseError). Refused (CommandBlockError e)) (inner-from error signature)
+result-from (Refused OutOfRange) signature = refl
+result-from (Refused NoSlot) signature = refl
+result-from (Refused SlotFull) signature = refl
+result-from (Refused (FlashSize n)) signature = refl
+result-from (Refused TooManySectors) signature = refl
+result-from (Refused StoreLength) signature = refl
+
+pub answers-unique : (a b : MockAnswer) (told : Told Unit) → Answers a told → Answers b told → a ≡ b
+answers-unique a b told m n =
+    let results : a .result ≡ b .result =
+    sym (result-from (a .result) (a .signature)) ∙ ap resultFrom (m .tells ∙ sym (n .tells)) ∙ result-from (b .result) (b .signature) in
+    ap₂ (λ (r : MockResult) (s : List ℕ). record { result = r; signature = s }) results (m .signature ∙ sym (n .signature))

@@ -1,0 +1,38 @@
+-- Which flash the stand-in takes, and which ranges of it.
+-- Assumes nothing.
+use Prim.Native.Nat.{ℕ, _+_, _/_, _%_}
+use mathlib.Core.Bool.{Bool, not}
+use mathlib.Core.List.{List, [], _∷_}
+use lib.Dec.{eqb, leb, ltb}
+use Rattle.wire.specs.Told.{Told, given, refused}
+use Rattle.wire.specs.Rules.{Rule, rule, pick, unless}
+use Rattle.block.specs.Sector.{sectorSize}
+use Rattle.answer.specs.Told.{errorTold}
+use Rattle.block.specs.Signature.{noSignature}
+use Rattle.answer.specs.declared.range.FlashRange.{FlashRange}
+use Rattle.answer.specs.declared.range.FlashSectors.{FlashSectors}
+use Rattle.answer.specs.declared.range.FlashSectors.the-variants.{Whole, Refused}
+use Rattle.answer.specs.declared.range.RangeAnswer.{RangeAnswer}
+use Rattle.answer.specs.declared.range.RangeAnswer.the-variants.{Within, OutOfRange}
+
+-- whole sectors, at most 65,536
+abbrev pub mostSectors : ℕ
+mostSectors = 65536
+
+-- 60: FlashSize (length); 61: over 65,536 sectors; this order
+unfoldable pub flashRules : ℕ → List Rule
+flashRules n = rule (not (eqb (n % sectorSize) 0)) 60 (n ∷ []) ∷ rule (ltb mostSectors (n / sectorSize)) 61 [] ∷ []
+
+unfoldable pub flashSectors : ℕ → Told ℕ
+flashSectors n = unless (flashRules n) (given (n / sectorSize))
+
+unfoldable pub sizeTold : FlashSectors → Told ℕ
+sizeTold (Whole sectors) = given sectors
+sizeTold (Refused error) = errorTold error noSignature
+
+-- a range fits exactly if address plus count is at most the flash's sectors
+unfoldable pub fitsIn : ℕ → ℕ → ℕ → Bool
+fitsIn sectors first count = leb (first + count) sectors
+
+unfoldable pub rangeIn : ℕ → ℕ → ℕ → RangeAnswer
+rangeIn sectors first count = pick (fitsIn sectors first count) (Within (record { first = first; count = count })) OutOfRange

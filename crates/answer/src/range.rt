@@ -1,0 +1,49 @@
+// A lent flash in sectors: its own size, and the ranges that lie in it.
+use super::error::MockTransportError;
+use block::SECTOR_SIZE;
+ghost use mathlib.Core.Path.{_≡_};
+ghost use Rattle.answer.specs.Flash.{flashSectors, sizeTold, rangeIn};
+
+const MOST_SECTORS: usize = 65536;
+
+// How many sectors a flash has.
+pub enum FlashSectors {
+    Whole(usize),
+    Refused(MockTransportError),
+}
+
+// Sectors of a flash, all of which it has.
+pub struct FlashRange {
+    pub first: u32,
+    pub count: u16,
+}
+
+pub enum RangeAnswer {
+    Within(FlashRange),
+    OutOfRange,
+}
+
+pub fn flash_sectors(length: usize) -> FlashSectors
+    ensures { λ r. ⌜ sizeTold r ≡ flashSectors length ⌝ }
+{
+    let size = SECTOR_SIZE as usize;
+    if length % size != 0 {
+        return FlashSectors::Refused(MockTransportError::FlashSize(length));
+    }
+    if MOST_SECTORS < length / size {
+        return FlashSectors::Refused(MockTransportError::TooManySectors);
+    }
+    FlashSectors::Whole(length / size)
+}
+
+pub fn flash_range(sectors: usize, start_sector: u32, count: u16) -> RangeAnswer
+    ensures { λ r. ⌜ r ≡ rangeIn sectors «start_sector» count ⌝ }
+{
+    if sectors < (start_sector as usize) + (count as usize) {
+        return RangeAnswer::OutOfRange;
+    }
+    RangeAnswer::Within(FlashRange {
+        first: start_sector,
+        count: count,
+    })
+}

@@ -1,0 +1,50 @@
+-- When an outcome comes to a turn: a refusal with its number and values, or what was done.
+-- Assumes nothing.
+use Prim.Native.Nat.{ℕ}
+use mathlib.Core.Path.{_≡_, refl, sym, _∙_}
+use mathlib.Core.Bool.{Bool, true, false}
+use mathlib.Core.List.{List, [], _∷_}
+use lib.Dec.{eqb}
+use Rattle.wire.specs.Told.{Told, given, refused}
+use Rattle.wire.specs.Rules.{pick}
+use Rattle.block.specs.Signature.{noSignature, signatureIn}
+use Rattle.protocol.specs.CommandMeets.{CommandMeets, commandTold, commandErrorNumber, commandErrorValues}
+use Rattle.protocol.specs.declared.CommandBlock.{CommandBlock}
+use Rattle.protocol.specs.declared.CommandBlockParseError.{CommandBlockParseError}
+use Rattle.protocol.specs.declared.CommandParse.{CommandParse}
+use Rattle.protocol.specs.declared.CommandAnswer.the-variants.{Refused}
+use Rattle.answer.specs.Told.{errorTold, errorValues, resultTold, innerSignature, signatureBeside, Answers}
+use Rattle.answer.specs.declared.error.MockTransportError.{MockTransportError}
+use Rattle.transaction.specs.Turn.{Turn, refuses, done, OutcomeMeets, refusedWith, settled, blockResult, blockRefused}
+use Rattle.transaction.specs.Table.{startTurn}
+use Rattle.transaction.specs.declared.session.CommandState.{CommandState}
+use Rattle.transaction.specs.declared.session.LastReset.{LastReset}
+use Rattle.transaction.specs.declared.outcome.Effect.{Effect}
+use Rattle.transaction.specs.declared.outcome.Outcome.{Outcome}
+
+-- no refusal but 56 tells a signature
+quiet : (number : ℕ) (values : List ℕ) → eqb number 56 ≡ false → signatureBeside (refused number values) ≡ noSignature
+unfolding signatureBeside innerSignature
+quiet number [] h = refl
+quiet number (value ∷ values) h = rw h
+
+pub refused-as : {r : Outcome} {t : Turn} (last : LastReset) (error : MockTransportError) (number : ℕ) (values : List ℕ)
+    → errorTold {A = Unit} error noSignature ≡ refused number values → eqb number 56 ≡ false
+    → r ≡ refusedWith last error → t ≡ refuses last number values → OutcomeMeets r t
+unfolding refuses resultTold
+refused-as last error number values told other e f =
+    rw (e, f) (record { tells = record { tells = told; signature = sym (quiet number values other) }; next = refl; effect = refl })
+
+pub done-as : {r : Outcome} {t : Turn} (state : CommandState) (last : LastReset) (effect : Effect)
+    → r ≡ settled state last effect → t ≡ done state last effect → OutcomeMeets r t
+unfolding done resultTold signatureBeside
+done-as state last effect e f = rw (e, f) (record { tells = record { tells = refl; signature = refl }; next = refl; effect = refl })
+
+-- 56: bytes that are no command
+pub block-refused : {r : Outcome} (parse : CommandParse) (told : Told CommandBlock) → CommandMeets parse told → (error : CommandBlockParseError)
+    → parse .answer ≡ Refused error → (last : LastReset) (sectors : ℕ) → r ≡ blockRefused last parse → OutcomeMeets r (startTurn told last sectors)
+unfolding startTurn refuses blockResult resultTold errorValues signatureBeside innerSignature commandTold signatureIn
+block-refused parse told m error a last sectors e =
+    let t : told ≡ refused (commandErrorNumber error) (commandErrorValues error (parse .signature)) = sym (m .tells) ∙ rw a refl in
+    rw (e, t)
+    (record { tells = record { tells = rw a refl; signature = m .signature ∙ rw t refl }; next = refl; effect = refl })

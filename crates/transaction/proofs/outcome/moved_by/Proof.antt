@@ -1,0 +1,18 @@
+-- Each arm is the case of the definition.
+-- Assumes nothing.
+use mathlib.Core.Path.{refl}
+use borrow.Author.Needs.{needs}
+use Rattle.transaction.specs.Turn.{movedBy}
+use Rattle.transaction.proofs.outcome.moved_by.Statement.{statement}
+use Rattle.transaction.proofs.outcome.moved_by.Tie as tie
+
+returns : tie.Need-returns
+unfolding movedBy
+returns c = rw (c .enum-told .given .1)
+
+returns-2 : tie.Need-returns-2
+unfolding movedBy
+returns-2 c = rw (c .enum-told2 .given .1)
+
+pub moved-by-spec : {M : Type 1} → statement M
+moved-by-spec = tie.close (tie.spec (λ c. search needs) (λ c. search needs) returns returns-2)
