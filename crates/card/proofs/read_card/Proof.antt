@@ -47,7 +47,7 @@ unfolding cardTold readCard unless
 returns-2 c =
     let e = c .before .before .before .before in
     let wrong : eqb (fieldsOf (read e) .check) (blockCheck (e .before .before .args .tag) (read e)) ≡ false =
-        ne-eqb _ _ (λ same. c .if2 .taken (ap (λ (f : Fields). f .check) (fields (c .before .before .before)) ∙ same ∙ sym (c .before .before .block-check .ensures))) in
+    ne-eqb _ _ (λ same. c .if2 .taken (ap (λ (f : Fields). f .check) (fields (c .before .before .before)) ∙ same ∙ sym (c .before .before .block-check .ensures))) in
     rw (long e, wrong)
 
 returns-3 : tie.Need-returns-3
@@ -56,8 +56,8 @@ returns-3 c =
     let t = c .before .before in
     let e = t .before .before .before .before in
     let unknown : isKind (fieldsOf (read e) .kind) ≡ false =
-        ap (λ (f : Fields). isKind (f .kind)) (sym (fields (t .before .before .before)))
-        ∙ sym (c .before .is-kind .ensures) ∙ not-true (c .before .is-kind .result) (c .if3 .taken) in
+    ap (λ (f : Fields). isKind (f .kind)) (sym (fields (t .before .before .before)))
+    ∙ sym (c .before .is-kind .ensures) ∙ not-true (c .before .is-kind .result) (c .if3 .taken) in
     rw (long e, right t, unknown)
 
 returns-4 : tie.Need-returns-4
@@ -77,7 +77,7 @@ returns-5 c =
     let t = k .before .before in
     let e = t .before .before .before .before in
     let large : tooLarge (fieldsOf (read e)) ≡ true =
-        ap tooLarge (sym (fields (t .before .before .before))) ∙ sym (c .before .too-large .ensures) ∙ c .if5 .taken in
+    ap tooLarge (sym (fields (t .before .before .before))) ∙ sym (c .before .too-large .ensures) ∙ c .if5 .taken in
     rw (long e, right t, kind k, zero-rest z, large)
 
 returns-6 : tie.Need-returns-6
@@ -88,7 +88,7 @@ returns-6 c =
     let t = k .before .before in
     let e = t .before .before .before .before in
     let small : tooLarge (fieldsOf (read e)) ≡ false =
-        ap tooLarge (sym (fields (t .before .before .before))) ∙ sym (c .before .before .too-large .ensures) ∙ c .before .if5 .left in
+    ap tooLarge (sym (fields (t .before .before .before))) ∙ sym (c .before .before .too-large .ensures) ∙ c .before .if5 .left in
     rw (long e, right t, kind k, zero-rest z, small) (c .request-of .ensures ∙ ap requestOf (fields (t .before .before .before)))
 
 pub read-card-spec : {M : Type 1} → statement M

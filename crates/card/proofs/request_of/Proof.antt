@@ -62,18 +62,20 @@ unfolding cardTold requestOf
 returns-13 c =
     let k = c .before .args .f .kind in
     let n = c .match .rest in
-    rw (ne-eqb k 1 (n .0 .0 .0 .0 .0 .0 .0 .0 .0 .0 .0 .1),
-    ne-eqb k 2 (n .0 .0 .0 .0 .0 .0 .0 .0 .0 .0 .1),
-    ne-eqb k 3 (n .0 .0 .0 .0 .0 .0 .0 .0 .0 .1),
-    ne-eqb k 4 (n .0 .0 .0 .0 .0 .0 .0 .0 .1),
-    ne-eqb k 5 (n .0 .0 .0 .0 .0 .0 .0 .1),
-    ne-eqb k 6 (n .0 .0 .0 .0 .0 .0 .1),
-    ne-eqb k 7 (n .0 .0 .0 .0 .0 .1),
-    ne-eqb k 8 (n .0 .0 .0 .0 .1),
-    ne-eqb k 9 (n .0 .0 .0 .1),
-    ne-eqb k 10 (n .0 .0 .1),
-    ne-eqb k 11 (n .0 .1),
-    ne-eqb k 12 (n .1))
+    rw (
+      ne-eqb k 1 (n .0 .0 .0 .0 .0 .0 .0 .0 .0 .0 .0 .1),
+      ne-eqb k 2 (n .0 .0 .0 .0 .0 .0 .0 .0 .0 .0 .1),
+      ne-eqb k 3 (n .0 .0 .0 .0 .0 .0 .0 .0 .0 .1),
+      ne-eqb k 4 (n .0 .0 .0 .0 .0 .0 .0 .0 .1),
+      ne-eqb k 5 (n .0 .0 .0 .0 .0 .0 .0 .1),
+      ne-eqb k 6 (n .0 .0 .0 .0 .0 .0 .1),
+      ne-eqb k 7 (n .0 .0 .0 .0 .0 .1),
+      ne-eqb k 8 (n .0 .0 .0 .0 .1),
+      ne-eqb k 9 (n .0 .0 .0 .1),
+      ne-eqb k 10 (n .0 .0 .1),
+      ne-eqb k 11 (n .0 .1),
+      ne-eqb k 12 (n .1),
+    )
 
 pub request-of-spec : {M : Type 1} → statement M
 request-of-spec =
