@@ -1,0 +1,2 @@
+-- The starts of the operations. `Start` is one over sectors, which can be refused.
+pub mod Start

@@ -1,0 +1,129 @@
+-- The four steps of an operation: "Command out ..; data if the transfer length isn't 0; status in, 13 bytes; finish."
+-- Assumes nothing.
+use Prim.Native.Nat.{ℕ}
+use mathlib.Core.Path.{_≡_}
+use mathlib.Core.List.{List, [], _∷_}
+use lib.Dec.{ltb}
+use Rattle.wire.specs.Told.{Told, given, refused, andThen}
+use Rattle.wire.specs.Rules.{pick, rule}
+use Rattle.wire.specs.Bytes.{front}
+use Rattle.lent.specs.Outcome.{orRefuse}
+use Rattle.block.specs.Signature.{noSignature}
+use Rattle.block.specs.Writing.{tooShort}
+use Rattle.protocol.specs.CommandBytes.{commandLength}
+use Rattle.finish.specs.Reply.{Reply, blank, finishTold, besideOf}
+use Rattle.finish.specs.Finish.{finishes}
+use Rattle.finish.specs.declared.Beside.{Beside}
+use Rattle.steps.specs.declared.Operation.{Operation}
+use Rattle.steps.specs.declared.Operation.the-variants as operation
+use Rattle.steps.specs.declared.IOBytes.{IOBytes}
+use Rattle.steps.specs.declared.IOBytes.the-variants as io
+use Rattle.steps.specs.declared.Asked.{Asked}
+use Rattle.steps.specs.declared.Asked.the-variants as asked
+use Rattle.steps.specs.declared.UsbOperation.{UsbOperation}
+use Rattle.steps.specs.declared.UsbStep.{UsbStep}
+use Rattle.steps.specs.declared.UsbStep.the-variants as step
+use Rattle.steps.specs.declared.UsbStepped.{UsbStepped}
+use Rattle.steps.specs.Record.{ioOf, statusSize, transferLength, inbandLength, turned, commanded, commandOut}
+
+-- what a step that is not refused asks for: a bulk write of the first 31 output bytes or of that many of the caller's data, a bulk read of that many
+-- bytes for what was asked, or nothing any more
+pub data Asks : Type 0 where
+  writesCommand : Asks
+  writesData : ℕ → Asks
+  reads : Asked → ℕ → Asks
+  finished : Reply → Asks
+
+-- what a step tells, the bytes that it puts at the front of the output, and the record that it hands back
+pub record Step : Type 0 where
+  pub told : Told Asks
+  pub sent : List ℕ
+  pub next : UsbOperation
+
+abbrev pub does : Told Asks → List ℕ → UsbOperation → Step
+does told sent next = record { told = told; sent = sent; next = next }
+
+-- "A refusal writes no lent buffer and changes no record"
+abbrev pub stays : UsbOperation → ℕ → List ℕ → Step
+stays op n values = does (refused n values) [] op
+
+-- 27: lent data differs
+abbrev pub differs : ℕ
+differs = 27
+
+-- "Command out, the first 31 output bytes, 24-30 zero"; 20
+unfoldable pub commandStep : UsbOperation → ℕ → Step
+commandStep op room =
+    orRefuse (stays op) (rule (ltb room commandLength) tooShort [] ∷ []) (does (given writesCommand) (commandOut op) (commanded op))
+
+-- "sector data below the transfer length, at its data step"
+abbrev pub sectorStep : UsbOperation → ℕ → Asks → Asked → Step
+sectorStep op lent asks asked =
+    orRefuse (stays op) (rule (ltb lent (transferLength op)) differs [] ∷ []) (does (given asks) [] (turned op operation.CommandStatus asked))
+
+-- the caller's data is written or read in its first transfer-length bytes, a reply into the in-band bytes
+unfoldable pub ioStep : IOBytes → UsbOperation → ℕ → Step
+ioStep io.Inband op lent = does (given (reads asked.Inband (inbandLength op))) [] (turned op operation.CommandStatus asked.Inband)
+ioStep io.Read op lent = sectorStep op lent (reads asked.Sectors (transferLength op)) asked.Sectors
+ioStep io.Write op lent = sectorStep op lent (writesData (transferLength op)) asked.Nothing
+
+-- "status in, 13 bytes"
+unfoldable pub statusStep : UsbOperation → Step
+statusStep op = does (given (reads asked.Status statusSize)) [] (turned op operation.Finish asked.Status)
+
+-- the finish's answer, passed on
+unfoldable pub finishedTold : Told Reply → Told Asks
+finishedTold t = andThen t (λ reply. given (finished reply))
+
+-- "After the finish the next step starts again at the command"; "a finish with 10-15 rearms the operation"
+unfoldable pub finishStep : UsbOperation → Step
+finishStep op =
+    does (finishedTold (finishes (op .kind) (op .command .tag) (transferLength op) (op .«command_bytes») (op .«data»))) []
+    (turned op operation.CommandBlock asked.Nothing)
+
+-- the step of an operation that stands there, lent that many bytes of data and of output
+unfoldable pub stepOf : Operation → UsbOperation → ℕ → ℕ → Step
+stepOf operation.CommandBlock op lent room = commandStep op room
+stepOf operation.IO op lent room = ioStep (ioOf (op .kind)) op lent
+stepOf operation.CommandStatus op lent room = statusStep op
+stepOf operation.Finish op lent room = finishStep op
+
+abbrev pub usbStep : UsbOperation → ℕ → ℕ → Step
+usbStep op lent room = stepOf (op .next) op lent room
+
+-- number and values of every answer
+unfoldable pub stepTold : UsbStep → Beside → Told Asks
+stepTold step.WriteCommand b = given writesCommand
+stepTold (step.WriteData n) b = given (writesData n)
+stepTold (step.ReadInband n) b = given (reads asked.Inband n)
+stepTold (step.ReadData n) b = given (reads asked.Sectors n)
+stepTold (step.ReadStatus n) b = given (reads asked.Status n)
+stepTold (step.Finished answer) b = finishedTold (finishTold answer b)
+stepTold step.OutputTooShort b = refused tooShort []
+stepTold step.DataDiffers b = refused differs []
+
+unfoldable pub besideAsks : Asks → Beside
+besideAsks writesCommand = blank noSignature
+besideAsks (writesData n) = blank noSignature
+besideAsks (reads a n) = blank noSignature
+besideAsks (finished reply) = besideOf (given reply)
+
+unfoldable pub besideAt : Told Asks → Beside
+besideAt (given asks) = besideAsks asks
+besideAt (refused n values) = besideOf (refused n values)
+
+-- the record that a step hands back, beside an answer with nothing beside it
+abbrev pub plain : UsbStep → UsbOperation → UsbStepped
+plain step op = record { step = step; beside = blank noSignature; next = op }
+
+-- what the code answers at the data step of a sector operation
+abbrev pub sectored : UsbOperation → ℕ → UsbStep → Asked → UsbStepped
+sectored op lent answer asked =
+    pick (ltb lent (transferLength op)) (plain step.DataDiffers op) (plain answer (turned op operation.CommandStatus asked))
+
+-- a step that answers r and leaves its output `after`, where it was `before`
+pub record StepMeets (r : UsbStepped) (before after : List ℕ) (s : Step) : Type 0 where
+  pub tells : stepTold (r .step) (r .beside) ≡ s .told
+  pub beside : r .beside ≡ besideAt (s .told)
+  pub next : r .next ≡ s .next
+  pub leaves : after ≡ front (s .sent) before
