@@ -17,6 +17,7 @@ use crate::names::SRD;
 use crate::names::STO;
 use crate::out::within;
 use crate::replies;
+use crate::told::Answer;
 use crate::told::Told;
 use crate::told::four;
 use crate::told::nine;
@@ -24,6 +25,7 @@ use crate::told::none;
 use crate::told::one;
 use crate::told::outside;
 use crate::told::three;
+use crate::told::with_room;
 use block::output::Written;
 use codes::Status;
 use codes::StatusRead;
@@ -133,13 +135,13 @@ fn read_as(name: u64, bytes: &[u8]) -> Told {
 }
 
 // `crd`, `srd`, `smp`, `sto`
-pub(crate) fn read(line: &[u8], name: Token, buffer: &mut [u8]) -> Told {
-    let given = data(line, name, LEN, buffer);
+pub(crate) fn read(line: &[u8], name: Token, scratch: &mut [u8]) -> Told {
+    let given = data(line, name, LEN, scratch);
     if !is_end(line, given) {
         return outside();
     }
-    let n = within(given.as_usize(), buffer);
-    read_as(name.value, &buffer[..n])
+    let n = within(given.as_usize(), scratch);
+    read_as(name.value, &scratch[..n])
 }
 
 fn written(answer: Written) -> Told {
@@ -149,73 +151,97 @@ fn written(answer: Written) -> Told {
     }
 }
 
-fn write_command(line: &[u8], before: Token, room: &mut [u8]) -> Told {
+// What is to be written, or why nothing is.
+enum Draft {
+    Command(CommandBlock),
+    Report(CommandStatus),
+    Refused(CommandBlockParseError),
+    Nothing,
+}
+
+struct Drafted {
+    draft: Draft,
+    signature: [u8; 4],
+}
+
+fn with_signature(draft: Draft, signature: [u8; 4]) -> Drafted {
+    Drafted { draft, signature }
+}
+
+fn constructed(line: &[u8], before: Token) -> Drafted {
     match command(line, before) {
-        Built::Block(block) => written(block.to_bytes(room)),
-        Built::Nothing => outside(),
+        Built::Block(block) => with_signature(Draft::Command(block), [0; 4]),
+        Built::Nothing => with_signature(Draft::Nothing, [0; 4]),
     }
 }
 
-fn rewritten(parse: CommandParse, room: &mut [u8]) -> Told {
+fn parsed(parse: CommandParse) -> Drafted {
     let answer = parse.answer;
     let signature = parse.signature;
     match answer {
-        CommandAnswer::Block(block) => written(block.to_bytes(room)),
-        CommandAnswer::Refused(error) => command_error(error, signature),
+        CommandAnswer::Block(block) => with_signature(Draft::Command(block), signature),
+        CommandAnswer::Refused(error) => with_signature(Draft::Refused(error), signature),
     }
 }
 
-fn convert_command(line: &[u8], before: Token, buffer: &mut [u8], room: &mut [u8]) -> Told {
-    let given = data(line, before, LEN, buffer);
+fn converted(line: &[u8], before: Token, scratch: &mut [u8]) -> Drafted {
+    let given = data(line, before, LEN, scratch);
     if !is_end(line, given) {
-        return outside();
+        return with_signature(Draft::Nothing, [0; 4]);
     }
-    let n = within(given.as_usize(), buffer);
-    rewritten(CommandBlock::from_bytes(&buffer[..n]), room)
+    let n = within(given.as_usize(), scratch);
+    parsed(CommandBlock::from_bytes(&scratch[..n]))
 }
 
-fn reported(tag: u32, residue: u32, byte: u8, room: &mut [u8]) -> Told {
+fn report_of(tag: u32, residue: u32, byte: u8) -> Draft {
     let StatusRead::Known(status) = Status::from_number(byte) else {
-        return outside();
+        return Draft::Nothing;
     };
-    let report = CommandStatus {
+    Draft::Report(CommandStatus {
         tag,
         residue,
         status,
-    };
-    written(report.to_bytes(room))
+    })
 }
 
-fn write_status(line: &[u8], before: Token, room: &mut [u8]) -> Told {
+fn reported(line: &[u8], before: Token) -> Drafted {
     let tag = number(line, before, U32);
     let residue = number(line, tag, U32);
     let status = number(line, residue, U8);
     if !is_end(line, status) {
-        return outside();
+        return with_signature(Draft::Nothing, [0; 4]);
     }
-    reported(tag.as_u32(), residue.as_u32(), status.as_u8(), room)
+    with_signature(
+        report_of(tag.as_u32(), residue.as_u32(), status.as_u8()),
+        [0; 4],
+    )
 }
 
-// OUTLEN FILL: the length of the output, after which it is filled.
-pub(crate) fn output_length(line: &[u8], name: Token) -> Token {
-    number(line, name, LEN)
-}
-
-pub(crate) fn output(line: &[u8], len: Token, room: &mut [u8]) -> Token {
-    let byte = number(line, len, U8);
-    fill(room, len.as_usize(), byte.as_u8());
-    byte
-}
-
-// `cwr`, `cnv`, `swr`, on the first bytes of the room.
-pub(crate) fn write(line: &[u8], name: Token, buffer: &mut [u8], room: &mut [u8]) -> Told {
-    let len = output_length(line, name);
-    let byte = output(line, len, room);
-    let n = within(len.as_usize(), room);
-    let call = name.value;
+fn draft_of(line: &[u8], call: u64, before: Token, scratch: &mut [u8]) -> Drafted {
     match call {
-        CWR => write_command(line, byte, &mut room[..n]),
-        CNV => convert_command(line, byte, buffer, &mut room[..n]),
-        _ => write_status(line, byte, &mut room[..n]),
+        CWR => constructed(line, before),
+        CNV => converted(line, before, scratch),
+        _ => reported(line, before),
     }
+}
+
+fn put_draft(drafted: Drafted, room: &mut [u8]) -> Told {
+    let draft = drafted.draft;
+    let signature = drafted.signature;
+    match draft {
+        Draft::Command(block) => written(block.to_bytes(room)),
+        Draft::Report(report) => written(report.to_bytes(room)),
+        Draft::Refused(error) => command_error(error, signature),
+        Draft::Nothing => outside(),
+    }
+}
+
+// `cwr`, `cnv`, `swr`: OUTLEN FILL, and what is to be written to the filled scratch
+pub(crate) fn write(line: &[u8], name: Token, scratch: &mut [u8]) -> Answer {
+    let len = number(line, name, LEN);
+    let byte = number(line, len, U8);
+    let drafted = draft_of(line, name.value, byte, scratch);
+    fill(scratch, len.as_usize(), byte.as_u8());
+    let n = within(len.as_usize(), scratch);
+    with_room(put_draft(drafted, &mut scratch[..n]), n)
 }

@@ -45,6 +45,13 @@ fn spelled(line: &[u8], start: Token, into: &mut [u8]) -> Token {
     }
 }
 
+// As many bytes as both have.
+pub(crate) fn copy(from: &[u8], into: &mut [u8]) {
+    for i in 0..from.len() {
+        put(into, i, from[i]);
+    }
+}
+
 fn next_seeded(state: u32) -> u32 {
     ((state as u64 * 1664525 + 1013904223) % 4294967296) as u32
 }

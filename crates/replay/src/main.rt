@@ -9,58 +9,60 @@ mod numbers;
 mod out;
 mod replies;
 mod told;
+mod uploads;
 
 use libc::STDOUT_FILENO;
-use line::Token;
 use line::call;
 use names::Group;
 use names::group_of;
+use told::Told;
+use told::outside;
+use told::plain;
+use uploads::Upload;
+use uploads::Uploaded;
 
-fn write(
-    line: &[u8],
-    name: Token,
-    out: &mut [u8],
-    at: usize,
-    data: &mut [u8],
-    room: &mut [u8],
-) -> usize {
-    let told = blocks::write(line, name, data, room);
-    let len = blocks::output_length(line, name);
-    out::told_with(out, at, told, room, len.as_usize())
+// The things that stay from line to line, beside their buffers.
+struct World {
+    upload: Upload,
 }
 
-fn reply(line: &[u8], name: Token, out: &mut [u8], at: usize, data: &mut [u8]) -> usize {
-    let told = replies::read(line, name, data);
-    out::told_and(out, at, told, data, replies::length(name.value))
+struct Answered {
+    answer: told::Answer,
+    world: World,
 }
 
-// The answer to a line, from `at` on.
-fn answer(line: &[u8], out: &mut [u8], at: usize, data: &mut [u8], room: &mut [u8]) -> usize {
+fn stays(answer: told::Answer, world: World) -> Answered {
+    Answered { answer, world }
+}
+
+fn told_only(told: Told, world: World) -> Answered {
+    stays(plain(told), world)
+}
+
+fn with_upload(done: Uploaded, world: World) -> Answered {
+    let answer = done.answer;
+    let upload = done.upload;
+    let world = World { upload };
+    Answered { answer, world }
+}
+
+fn answer_call(line: &[u8], world: World, scratch: &mut [u8], image: &mut [u8]) -> Answered {
     let name = call(line);
     match group_of(name.value) {
-        Group::Numbers => out::told(out, at, numbers::answer(line, name)),
-        Group::Reads => out::told(out, at, blocks::read(line, name, data)),
-        Group::Writes => write(line, name, out, at, data, room),
-        Group::Replies => reply(line, name, out, at, data),
-        Group::Size => out::told(out, at, replies::size(line, name)),
-        Group::Nothing => out::told(out, at, told::outside()),
+        Group::Numbers => told_only(numbers::answer(line, name), world),
+        Group::Size => told_only(replies::size(line, name), world),
+        Group::Reads => told_only(blocks::read(line, name, scratch), world),
+        Group::Writes => stays(blocks::write(line, name, scratch), world),
+        Group::Replies => stays(replies::read(line, name, scratch), world),
+        Group::Start => with_upload(uploads::start(line, name, image), world),
+        Group::Step => with_upload(
+            uploads::step(line, name, world.upload, image, scratch),
+            world,
+        ),
+        Group::All => stays(uploads::all(line, name, scratch), world),
+        Group::Cut => stays(uploads::cut_up(line, name, scratch), world),
+        Group::Nothing => told_only(outside(), world),
     }
-}
-
-// A line that fills its buffer was too long.
-fn answer_line(
-    line: &[u8],
-    len: usize,
-    out: &mut [u8],
-    at: usize,
-    data: &mut [u8],
-    room: &mut [u8],
-) -> usize {
-    let n = out::within(len, line);
-    if n == line.len() {
-        return out::told(out, at, told::outside());
-    }
-    answer(&line[..n], out, at, data, room)
 }
 
 fn flush(out: &[u8], n: usize) {
@@ -78,24 +80,62 @@ fn end_line(out: &mut [u8], at: usize) -> usize {
     next
 }
 
-fn run(block: &mut [u8], line: &mut [u8], out: &mut [u8], data: &mut [u8], room: &mut [u8]) {
-    let mut at = 0;
+// A line that fills its buffer was too long, and counts as empty.
+fn line_length(len: usize, most: usize) -> usize {
+    if len < most { len } else { 0 }
+}
+
+struct Printed {
+    at: usize,
+    world: World,
+}
+
+fn answer_line(
+    line: &[u8],
+    len: usize,
+    world: World,
+    out: &mut [u8],
+    at: usize,
+    scratch: &mut [u8],
+    image: &mut [u8],
+) -> Printed {
+    let n = out::within(line_length(len, line.len()), line);
+    let done = answer_call(&line[..n], world, scratch, image);
+    let next = out::answer(out, at, done.answer, scratch);
+    let world = done.world;
+    Printed {
+        at: end_line(out, next),
+        world,
+    }
+}
+
+fn run(block: &mut [u8], line: &mut [u8], out: &mut [u8], scratch: &mut [u8], image: &mut [u8]) {
+    let upload = uploads::no_upload();
+    let world = World { upload };
+    let mut printed = Printed { at: 0, world };
     let mut input = input::next_line(block, line, input::start());
     let mut turns = u64::MAX;
     while turns > 0 && !input.is_over {
-        at = answer_line(line, input.len, out, at, data, room);
-        at = end_line(out, at);
+        printed = answer_line(
+            line,
+            input.len,
+            printed.world,
+            out,
+            printed.at,
+            scratch,
+            image,
+        );
         input = input::next_line(block, line, input);
         turns -= 1;
     }
-    flush(out, at);
+    flush(out, printed.at);
 }
 
 fn main() {
     let mut block = [0u8; 65536];
     let mut line = [0u8; 4096];
     let mut out = [0u8; 65536];
-    let mut data = [0u8; 100000];
-    let mut room = [0u8; 65536];
-    run(&mut block, &mut line, &mut out, &mut data, &mut room);
+    let mut scratch = [0u8; 100000];
+    let mut image = [0u8; 100000];
+    run(&mut block, &mut line, &mut out, &mut scratch, &mut image);
 }

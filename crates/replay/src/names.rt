@@ -44,6 +44,14 @@ pub(crate) const WRL: u64 = 0x77726c;
 pub(crate) const RST: u64 = 0x727374;
 
 pub(crate) const SWI: u64 = 0x737769;
+// uploads
+pub(crate) const UPL: u64 = 0x75706c;
+
+pub(crate) const UST: u64 = 0x757374;
+
+pub(crate) const ALL: u64 = 0x616c6c;
+
+pub(crate) const CUT: u64 = 0x637574;
 
 pub(crate) enum Group {
     Numbers,
@@ -51,6 +59,10 @@ pub(crate) enum Group {
     Writes,
     Replies,
     Size,
+    Start,
+    Step,
+    All,
+    Cut,
     Nothing,
 }
 
@@ -61,6 +73,10 @@ pub(crate) fn group_of(name: u64) -> Group {
         CWR | CNV | SWR => Group::Writes,
         CHP | FID | FIN | CAP => Group::Replies,
         SEC => Group::Size,
+        UPL => Group::Start,
+        UST => Group::Step,
+        ALL => Group::All,
+        CUT => Group::Cut,
         _ => Group::Nothing,
     }
 }

@@ -1,7 +1,9 @@
 // Answers are written to a lent buffer, from a place on. What does not fit is left out, so that no caller owes anything: the
 // buffer has room for the longest answer whenever a line is answered.
 
+use crate::told::Answer;
 use crate::told::OUTSIDE;
+use crate::told::Tail;
 use crate::told::Told;
 ghost use Rattle.io.specs.Counts.{Counts};
 
@@ -97,12 +99,6 @@ pub(crate) fn first_bytes(out: &mut [u8], at: usize, buffer: &[u8], n: usize) ->
     bytes(out, at, &buffer[..n])
 }
 
-// The first `n` bytes of a buffer as a section.
-pub(crate) fn section(out: &mut [u8], at: usize, buffer: &[u8], n: usize) -> usize {
-    let next = text(out, at, b" | ");
-    first_bytes(out, next, buffer, n)
-}
-
 fn listed(out: &mut [u8], at: usize, values: [u64; 9], count: usize) -> usize {
     let mut next = at;
     for i in 0..9 {
@@ -114,30 +110,47 @@ fn listed(out: &mut [u8], at: usize, values: [u64; 9], count: usize) -> usize {
     next
 }
 
-pub(crate) fn told(out: &mut [u8], at: usize, told: Told) -> usize {
-    if told.number == OUTSIDE {
-        return text(out, at, b"outside");
-    }
+fn told(out: &mut [u8], at: usize, told: Told) -> usize {
     let next = decimal(out, at, told.number);
     let values = told.values;
     listed(out, next, values, told.count)
 }
 
-// What a call told, with a buffer's first `n` bytes as the last value.
-pub(crate) fn told_and(out: &mut [u8], at: usize, told: Told, buffer: &[u8], n: usize) -> usize {
-    let next = self::told(out, at, told);
-    if told.number != 0 {
-        return next;
-    }
-    let next = put(out, next, b' ');
+pub(crate) fn spaced_bytes(out: &mut [u8], at: usize, buffer: &[u8], n: usize) -> usize {
+    let next = put(out, at, b' ');
     first_bytes(out, next, buffer, n)
 }
 
-// What a call told, with a buffer's first `n` bytes as a section.
-pub(crate) fn told_with(out: &mut [u8], at: usize, told: Told, buffer: &[u8], n: usize) -> usize {
-    let next = self::told(out, at, told);
-    if told.number == OUTSIDE {
-        return next;
+fn first_text(out: &mut [u8], at: usize, buffer: &[u8], n: usize) -> usize {
+    let n = within(n, buffer);
+    text(out, at, &buffer[..n])
+}
+
+fn tail(out: &mut [u8], at: usize, tail: Tail, small: &[u8; 16], scratch: &[u8]) -> usize {
+    match tail {
+        Tail::Nothing => at,
+        Tail::Small(n) => spaced_bytes(out, at, small, n),
+        Tail::Text(n) => first_text(out, at, scratch, n),
     }
-    section(out, next, buffer, n)
+}
+
+// The first `n` bytes of a buffer as a section, where it has one.
+fn section(out: &mut [u8], at: usize, is_there: bool, buffer: &[u8], n: usize) -> usize {
+    if !is_there {
+        return at;
+    }
+    let next = text(out, at, b" | ");
+    first_bytes(out, next, buffer, n)
+}
+
+pub(crate) fn answer(out: &mut [u8], at: usize, answer: Answer, scratch: &[u8]) -> usize {
+    let told = answer.told;
+    if told.number == OUTSIDE {
+        return text(out, at, b"outside");
+    }
+    let next = self::told(out, at, told);
+    let tail = answer.tail;
+    let small = answer.small;
+    let next = self::tail(out, next, tail, &small, scratch);
+    section(out, next, answer.has_room, scratch, answer.room)
 }

@@ -1,4 +1,5 @@
 // "Replies": each read by its own wrapper, and sector data by its length.
+use crate::data::copy;
 use crate::data::data;
 use crate::line::LEN;
 use crate::line::Token;
@@ -11,13 +12,16 @@ use crate::names::CHP;
 use crate::names::FID;
 use crate::names::FIN;
 use crate::numbers::storage;
-use crate::out::put;
+use crate::out::within;
+use crate::told::Answer;
 use crate::told::Told;
 use crate::told::nine;
 use crate::told::none;
 use crate::told::one;
 use crate::told::outside;
+use crate::told::plain;
 use crate::told::three;
+use crate::told::with_small;
 use reply::flags::Capability;
 use reply::info::ChipInfo;
 use reply::info::FlashId;
@@ -27,41 +31,39 @@ use reply::media::storage_index;
 use reply::size::SectorAnswer;
 use reply::size::sector_count;
 
-// As many bytes as both have.
-fn copy(from: &[u8], into: &mut [u8]) {
-    for i in 0..from.len() {
-        put(into, i, from[i]);
-    }
+fn widened(bytes: &[u8]) -> [u8; 16] {
+    let mut wide = [0u8; 16];
+    copy(bytes, &mut wide);
+    wide
 }
 
-fn chip_info(buffer: &mut [u8]) -> Told {
-    let mut bytes = [0u8; 16];
-    copy(buffer, &mut bytes);
-    let inner = ChipInfo::from_bytes(bytes).inner();
-    copy(&inner, buffer);
-    none(0)
+fn chip_info(bytes: &[u8]) -> Answer {
+    let inner = ChipInfo::from_bytes(widened(bytes)).inner();
+    with_small(none(0), inner, 16)
 }
 
-fn flash_id(buffer: &mut [u8]) -> Told {
-    let mut bytes = [0u8; 5];
-    copy(buffer, &mut bytes);
-    let inner = FlashId::from_bytes(bytes).inner();
-    copy(&inner, buffer);
-    none(0)
+fn flash_id(bytes: &[u8]) -> Answer {
+    let mut id = [0u8; 5];
+    copy(bytes, &mut id);
+    let inner = FlashId::from_bytes(id).inner();
+    with_small(none(0), widened(&inner), 5)
 }
 
-fn flash_info(buffer: &mut [u8]) -> Told {
-    let mut bytes = [0u8; 11];
-    copy(buffer, &mut bytes);
-    let info = FlashInfo::from_bytes(bytes);
-    let inner = info.inner();
-    copy(&inner, buffer);
+fn info(info: FlashInfo) -> Told {
     three(
         0,
         info.sectors() as u64,
         info.size(),
         info.block_size_sectors() as u64,
     )
+}
+
+fn flash_info(bytes: &[u8]) -> Answer {
+    let mut info = [0u8; 11];
+    copy(bytes, &mut info);
+    let info = FlashInfo::from_bytes(info);
+    let inner = info.inner();
+    with_small(self::info(info), widened(&inner), 11)
 }
 
 fn flag(is_set: bool) -> u64 {
@@ -85,16 +87,15 @@ fn flags(capability: Capability) -> Told {
     )
 }
 
-fn capability(buffer: &mut [u8]) -> Told {
-    let mut bytes = [0u8; 8];
-    copy(buffer, &mut bytes);
-    let capability = Capability::from_bytes(bytes);
+fn capability(bytes: &[u8]) -> Answer {
+    let mut flags = [0u8; 8];
+    copy(bytes, &mut flags);
+    let capability = Capability::from_bytes(flags);
     let inner = capability.inner();
-    copy(&inner, buffer);
-    flags(capability)
+    with_small(self::flags(capability), widened(&inner), 8)
 }
 
-pub(crate) fn length(name: u64) -> usize {
+fn length(name: u64) -> usize {
     match name {
         CHP => 16,
         FID => 5,
@@ -103,20 +104,27 @@ pub(crate) fn length(name: u64) -> usize {
     }
 }
 
-// `chp`, `fid`, `fin`, `cap`: the reply's own bytes are left at the front of the buffer.
-pub(crate) fn read(line: &[u8], name: Token, buffer: &mut [u8]) -> Told {
-    let given = data(line, name, LEN, buffer);
-    let call = name.value;
-    if !is_end(line, given) || given.as_usize() != length(call) {
-        return outside();
+fn read_as(name: u64, bytes: &[u8]) -> Answer {
+    if bytes.len() != length(name) {
+        return plain(outside());
     }
-    match call {
-        CHP => chip_info(buffer),
-        FID => flash_id(buffer),
-        FIN => flash_info(buffer),
-        CAP => capability(buffer),
-        _ => outside(),
+    match name {
+        CHP => chip_info(bytes),
+        FID => flash_id(bytes),
+        FIN => flash_info(bytes),
+        CAP => capability(bytes),
+        _ => plain(outside()),
     }
+}
+
+// `chp`, `fid`, `fin`, `cap`
+pub(crate) fn read(line: &[u8], name: Token, scratch: &mut [u8]) -> Answer {
+    let given = data(line, name, LEN, scratch);
+    if !is_end(line, given) {
+        return plain(outside());
+    }
+    let n = within(given.as_usize(), scratch);
+    read_as(name.value, &scratch[..n])
 }
 
 // `sto`

@@ -1,5 +1,6 @@
-// What a line is told, by value: a number and its values. It is printed in one place.
+// What a line is told, by value: a number with its values, and which bytes and sections stand behind them. All of it is printed in one place.
 
+// No number of document 01: the line is not of the language, or about a thing that is not there.
 pub(crate) const OUTSIDE: u64 = 1000;
 
 pub(crate) struct Told {
@@ -67,5 +68,56 @@ pub(crate) fn nine(number: u64, values: [u64; 9]) -> Told {
         number,
         count: 9,
         values,
+    }
+}
+
+// Bytes that stand behind the values.
+pub(crate) enum Tail {
+    Nothing,
+    // the first bytes of `small`
+    Small(usize),
+    // the first bytes of the scratch as they are: a text with a space before it
+    Text(usize),
+}
+
+pub(crate) struct Answer {
+    pub told: Told,
+    pub tail: Tail,
+    pub small: [u8; 16],
+    // the first bytes of the scratch as a section
+    pub has_room: bool,
+    pub room: usize,
+}
+
+fn made(told: Told, tail: Tail, small: [u8; 16]) -> Answer {
+    Answer {
+        told,
+        tail,
+        small,
+        has_room: false,
+        room: 0,
+    }
+}
+
+pub(crate) fn plain(told: Told) -> Answer {
+    made(told, Tail::Nothing, [0; 16])
+}
+
+pub(crate) fn with_text(told: Told, n: usize) -> Answer {
+    made(told, Tail::Text(n), [0; 16])
+}
+
+pub(crate) fn with_small(told: Told, small: [u8; 16], n: usize) -> Answer {
+    made(told, Tail::Small(n), small)
+}
+
+pub(crate) fn with_room(told: Told, room: usize) -> Answer {
+    let tail = Tail::Nothing;
+    Answer {
+        told,
+        tail,
+        small: [0; 16],
+        has_room: true,
+        room,
     }
 }

@@ -7,17 +7,18 @@ use Rattle.replay.proofs.run.Statement.{statement}
 use Rattle.replay.proofs.run.Tie as tie
 
 abbrev Inv-loop : tie.InvT-loop
-Inv-loop block₀ line₀ out₀ data₀ room₀ at₀ input₀ turns₀ block line out «data» room at input turns =
+Inv-loop block₀ line₀ out₀ scratch₀ image₀ printed₀ input₀ turns₀ block line out scratch image printed input turns =
     (length block ≡ length block₀) × (length line ≡ length line₀) × (length out ≡ length out₀)
-    × (length «data» ≡ length data₀) × (length room ≡ length room₀)
+    × (length scratch ≡ length scratch₀) × (length image ≡ length image₀)
 
 abbrev μ-loop : tie.MeasureT-loop
-μ-loop block₀ line₀ out₀ data₀ room₀ at₀ input₀ turns₀ block line out «data» room at input turns = turns
+μ-loop block₀ line₀ out₀ scratch₀ image₀ printed₀ input₀ turns₀ block line out scratch image printed input turns =
+    turns
 
 pub run-spec : {M : Type 1} → statement M
 run-spec =
     tie.close
-    (tie.spec Inv-loop μ-loop (λ c κs. search needs) (λ c κs. search needs) (λ c. search needs) (λ c κs. search needs)
+    (tie.spec Inv-loop μ-loop (λ c κs. search needs) (λ c κs. search needs) (λ c κs. search needs) (λ c. search needs)
     (λ c κs. search needs) (λ c κs. search needs) (λ c. search needs) (λ c. search needs) (λ c. search needs)
     (λ c κs. search needs) (λ c. search needs) (λ c. search needs) (λ c. search needs) (λ c. search needs)
     (λ c. search needs) (λ c. search needs))

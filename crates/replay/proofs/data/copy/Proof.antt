@@ -4,8 +4,8 @@ use Prim.Native.Nat.{_-_}
 use mathlib.Core.Path.{_≡_}
 use lib.ListN.{length}
 use borrow.Author.Needs.{needs}
-use Rattle.replay.proofs.replies.copy.Statement.{statement}
-use Rattle.replay.proofs.replies.copy.Tie as tie
+use Rattle.replay.proofs.data.copy.Statement.{statement}
+use Rattle.replay.proofs.data.copy.Tie as tie
 
 abbrev Inv-loop : tie.InvT-loop
 Inv-loop from into₀ i₀ i-end into i = length into ≡ length into₀

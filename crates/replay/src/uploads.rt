@@ -1,0 +1,438 @@
+// "Uploads": the current upload, and whole and part-wise lists of transfers. An image has at most 100,000 bytes here.
+use crate::data::copy;
+use crate::data::data;
+use crate::data::fill;
+use crate::line::LEN;
+use crate::line::Token;
+use crate::line::U8;
+use crate::line::U16;
+use crate::line::U32;
+use crate::line::is_end;
+use crate::line::number;
+use crate::out::put;
+use crate::out::spaced_bytes;
+use crate::out::value;
+use crate::out::within;
+use crate::told::Answer;
+use crate::told::Told;
+use crate::told::none;
+use crate::told::one;
+use crate::told::outside;
+use crate::told::plain;
+use crate::told::with_room;
+use crate::told::with_text;
+use maskrom::CloseStepped;
+use maskrom::Control;
+use maskrom::MaskRomOperation;
+use maskrom::PartStep;
+use maskrom::UploadStart;
+use maskrom::UploadStep;
+use maskrom::WholeStart;
+use maskrom::WholeUpload;
+use maskrom::write_area;
+use maskrom::write_area_no_crc;
+
+const IMAGE: u64 = 100000;
+
+// the most of a part's size: the language's longest image
+const PART: u64 = 16777216;
+
+// more turns than any list of transfers takes
+const TURNS: u64 = 1000000000;
+
+// The current upload: whether there is one, its record, and the length of its image, which stands in a buffer of its own.
+pub(crate) struct Upload {
+    is_there: bool,
+    record: WholeUpload,
+    length: usize,
+}
+
+pub(crate) struct Uploaded {
+    pub answer: Answer,
+    pub upload: Upload,
+}
+
+fn begun(area: u16, is_checked: bool, image: &[u8]) -> WholeStart {
+    if is_checked {
+        write_area(area, image)
+    } else {
+        write_area_no_crc(area, image)
+    }
+}
+
+pub(crate) fn no_upload() -> Upload {
+    let begun = begun(0, false, b"");
+    let record = begun.upload;
+    Upload {
+        is_there: false,
+        record,
+        length: 0,
+    }
+}
+
+fn answered(told: Told, upload: Upload) -> Uploaded {
+    let answer = plain(told);
+    Uploaded { answer, upload }
+}
+
+fn started(start: WholeStart, length: usize) -> Uploaded {
+    let outcome = start.start;
+    let record = start.upload;
+    let upload = Upload {
+        is_there: true,
+        record,
+        length,
+    };
+    match outcome {
+        UploadStart::Started => answered(none(0), upload),
+        UploadStart::ImageTooLong => answered(none(25), no_upload()),
+    }
+}
+
+// `upl`
+pub(crate) fn start(line: &[u8], name: Token, image: &mut [u8]) -> Uploaded {
+    let area = number(line, name, U16);
+    let check = number(line, area, 1);
+    let given = data(line, check, IMAGE, image);
+    if !is_end(line, given) {
+        return answered(outside(), no_upload());
+    }
+    let n = within(given.as_usize(), image);
+    started(begun(area.as_u16(), check.value == 1, &image[..n]), n)
+}
+
+fn control_told(control: Control) -> Told {
+    Told {
+        number: 0,
+        count: 6,
+        values: [
+            4,
+            control.request_type as u64,
+            control.request as u64,
+            control.value as u64,
+            control.index as u64,
+            control.size as u64,
+            0,
+            0,
+            0,
+        ],
+    }
+}
+
+fn step_told(step: UploadStep) -> Told {
+    match step {
+        UploadStep::WriteControl(control) => control_told(control),
+        UploadStep::Finished => one(0, 3),
+        UploadStep::OutputTooShort => none(20),
+        UploadStep::ImageDiffers => none(27),
+    }
+}
+
+fn stepped(upload: Upload, image: &[u8], out: &mut [u8]) -> Uploaded {
+    let record = upload.record;
+    let done = record.step(image, out);
+    let step = done.step;
+    let record = done.next;
+    let answer = with_room(step_told(step), out.len());
+    let upload = Upload {
+        is_there: true,
+        record,
+        length: upload.length,
+    };
+    Uploaded { answer, upload }
+}
+
+// `ust`
+pub(crate) fn step(
+    line: &[u8],
+    name: Token,
+    upload: Upload,
+    image: &[u8],
+    scratch: &mut [u8],
+) -> Uploaded {
+    let len = number(line, name, LEN);
+    let byte = number(line, len, U8);
+    if !upload.is_there || !is_end(line, byte) {
+        return answered(outside(), upload);
+    }
+    fill(scratch, len.as_usize(), byte.as_u8());
+    let n = within(upload.length, image);
+    let m = within(len.as_usize(), scratch);
+    stepped(upload, &image[..n], &mut scratch[..m])
+}
+
+// A list of transfers: how many, and where its text ends.
+struct List {
+    count: u64,
+    at: usize,
+    is_over: bool,
+}
+
+fn empty_list() -> List {
+    List {
+        count: 0,
+        at: 0,
+        is_over: false,
+    }
+}
+
+// ` TYPE REQUEST VALUE INDEX BYTES`
+fn with_transfer(text: &mut [u8], list: List, control: Control, bytes: &[u8]) -> List {
+    let at = value(text, list.at, control.request_type as u64);
+    let at = value(text, at, control.request as u64);
+    let at = value(text, at, control.value as u64);
+    let at = value(text, at, control.index as u64);
+    List {
+        count: std::num::wrapping_add_u64(list.count, 1),
+        at: spaced_bytes(text, at, bytes, control.size),
+        is_over: false,
+    }
+}
+
+fn over(list: List) -> List {
+    List {
+        count: list.count,
+        at: list.at,
+        is_over: true,
+    }
+}
+
+fn listed(text: &mut [u8], list: List, step: UploadStep, bytes: &[u8]) -> List {
+    match step {
+        UploadStep::WriteControl(control) => with_transfer(text, list, control, bytes),
+        _ => over(list),
+    }
+}
+
+struct Whole {
+    record: WholeUpload,
+    list: List,
+}
+
+fn next_whole(whole: Whole, image: &[u8], text: &mut [u8]) -> Whole {
+    let mut out = [0u8; 4096];
+    let record = whole.record;
+    let done = record.step(image, &mut out);
+    let record = done.next;
+    let step = done.step;
+    let list = listed(text, whole.list, step, &out);
+    Whole { record, list }
+}
+
+fn whole_list(record: WholeUpload, image: &[u8], text: &mut [u8]) -> List {
+    let list = empty_list();
+    let mut whole = Whole { record, list };
+    let mut turns = TURNS;
+    while turns > 0 && !whole.list.is_over {
+        whole = next_whole(whole, image, text);
+        turns -= 1;
+    }
+    whole.list
+}
+
+fn list_answer(list: List) -> Answer {
+    with_text(one(0, list.count), list.at)
+}
+
+// The list of the image in the scratch's first `n` bytes; its text takes the image's place.
+fn all_of(area: u16, is_checked: bool, n: usize, scratch: &mut [u8]) -> Answer {
+    let mut text = [0u8; 4096];
+    let n = within(n, scratch);
+    let begun = begun(area, is_checked, &scratch[..n]);
+    let list = whole_list(begun.upload, &scratch[..n], &mut text);
+    copy(&text, scratch);
+    list_answer(list)
+}
+
+// `all`
+pub(crate) fn all(line: &[u8], name: Token, scratch: &mut [u8]) -> Answer {
+    let area = number(line, name, U16);
+    let check = number(line, area, 1);
+    let given = data(line, check, IMAGE, scratch);
+    if !is_end(line, given) {
+        return plain(outside());
+    }
+    all_of(area.as_u16(), check.value == 1, given.as_usize(), scratch)
+}
+
+// A part-wise upload on its way: its record and list, how much of the image was taken, where the part at hand ends and whether it
+// was not handed over yet, how many parts of this pass were, and the place in the line after the last one.
+struct Cut {
+    record: MaskRomOperation,
+    list: List,
+    taken: usize,
+    end: usize,
+    is_fresh: bool,
+    parts: u64,
+    place: usize,
+}
+
+fn part_of(image: &[u8], from: usize, to: usize) -> &[u8] {
+    let end = within(to, image);
+    if from <= end {
+        &image[from..end]
+    } else {
+        &image[end..]
+    }
+}
+
+fn after_part(cut: Cut, record: MaskRomOperation, list: List, n: usize) -> Cut {
+    Cut {
+        record,
+        list,
+        taken: std::num::wrapping_add_usize(cut.taken, n),
+        end: cut.end,
+        is_fresh: false,
+        parts: cut.parts,
+        place: cut.place,
+    }
+}
+
+fn hand_over(image: &[u8], text: &mut [u8], cut: Cut) -> Cut {
+    let mut out = [0u8; 4096];
+    let record = cut.record;
+    let done = record.part(part_of(image, cut.taken, cut.end), &mut out);
+    let step = done.step;
+    let next = done.next;
+    let list = cut.list;
+    match step {
+        PartStep::Taken(n) => after_part(cut, next, list, n),
+        PartStep::WriteControl(n, control) => after_part(
+            cut,
+            next,
+            with_transfer(text, list, control, &out),
+            n,
+        ),
+        _ => after_part(cut, next, over(list), 0),
+    }
+}
+
+fn close(text: &mut [u8], cut: Cut) -> Cut {
+    let mut out = [0u8; 4096];
+    let record = cut.record;
+    let done = record.close(&mut out);
+    let step = done.step;
+    let next = done.next;
+    let list = listed(text, cut.list, step, &out);
+    after_part(cut, next, list, 0)
+}
+
+fn least(a: usize, b: usize) -> usize {
+    if a < b { a } else { b }
+}
+
+// The next part of the pass, or the first of the next pass, cut down to what is left of the image.
+fn next_part(line: &[u8], first: Token, count: u64, length: usize, cut: Cut) -> Cut {
+    let is_first = cut.parts == count;
+    let place = if is_first { first.at } else { cut.place };
+    let parts = if is_first { 0 } else { cut.parts };
+    let before = Token {
+        value: 0,
+        at: place,
+        ok: true,
+    };
+    let size = number(line, before, PART);
+    let record = cut.record;
+    let list = cut.list;
+    Cut {
+        record,
+        list,
+        taken: cut.taken,
+        end: least(
+            std::num::wrapping_add_usize(cut.taken, size.as_usize()),
+            length,
+        ),
+        is_fresh: true,
+        parts: std::num::wrapping_add_u64(parts, 1),
+        place: size.at,
+    }
+}
+
+fn next_cut(line: &[u8], first: Token, count: u64, image: &[u8], text: &mut [u8], cut: Cut) -> Cut {
+    if cut.is_fresh || cut.taken < cut.end {
+        return hand_over(image, text, cut);
+    }
+    if cut.parts == count && cut.taken >= image.len() {
+        return close(text, cut);
+    }
+    next_part(line, first, count, image.len(), cut)
+}
+
+fn new_cut(area: u16, is_checked: bool, first: Token) -> Cut {
+    let record = if is_checked {
+        MaskRomOperation::new(area)
+    } else {
+        MaskRomOperation::new_no_crc(area)
+    };
+    let list = empty_list();
+    Cut {
+        record,
+        list,
+        taken: 0,
+        end: 0,
+        is_fresh: false,
+        parts: 0,
+        place: first.at,
+    }
+}
+
+fn cut_list(
+    line: &[u8],
+    first: Token,
+    count: u64,
+    image: &[u8],
+    text: &mut [u8],
+    start: Cut,
+) -> List {
+    let mut cut = start;
+    let mut turns = TURNS;
+    while turns > 0 && !cut.list.is_over {
+        cut = next_cut(line, first, count, image, text, cut);
+        turns -= 1;
+    }
+    cut.list
+}
+
+// Past the size of a part. The value says whether some size was above 0.
+fn size(line: &[u8], before: Token) -> Token {
+    let size = number(line, before, PART);
+    Token {
+        value: if size.value > 0 { 1 } else { before.value },
+        at: size.at,
+        ok: size.ok,
+    }
+}
+
+fn sizes(line: &[u8], count: Token) -> Token {
+    let mut last = Token {
+        value: 0,
+        at: count.at,
+        ok: count.ok,
+    };
+    for _ in 0..count.value {
+        last = size(line, last);
+    }
+    last
+}
+
+fn cut_of(line: &[u8], count: Token, start: Cut, n: usize, scratch: &mut [u8]) -> Answer {
+    let mut text = [0u8; 4096];
+    let n = within(n, scratch);
+    let list = cut_list(line, count, count.value, &scratch[..n], &mut text, start);
+    copy(&text, scratch);
+    list_answer(list)
+}
+
+// `cut`
+pub(crate) fn cut_up(line: &[u8], name: Token, scratch: &mut [u8]) -> Answer {
+    let area = number(line, name, U16);
+    let check = number(line, area, 1);
+    let count = number(line, check, 2047);
+    let last = sizes(line, count);
+    let given = data(line, last, IMAGE, scratch);
+    if last.value == 0 || !is_end(line, given) {
+        return plain(outside());
+    }
+    let start = new_cut(area.as_u16(), check.value == 1, count);
+    cut_of(line, count, start, given.as_usize(), scratch)
+}
