@@ -1,3 +1,5 @@
--- `Unique`: answers allowed by one contract are equal. `Fitting`: what a range that was taken or refused tells.
+-- `Telling`: the answers that the code makes tell what they should. `Unique`: answers allowed by one contract are equal.
+-- `Fitting`: what a range that was taken or refused tells.
+pub mod Telling
 pub mod Unique
 pub mod Fitting

@@ -7,6 +7,7 @@ use native.Mathlib.Omega.{arith}
 use lib.ListN.{length, take, drop, length-take, length-drop, take-append-drop}
 use lib.Seq.{take-length, drop-append-le, drop-drop}
 use borrow.Rule.Slice.PartMut.{putMid}
+use Rattle.wire.specs.Bytes.{front}
 use Rattle.lent.specs.Over.{over}
 
 -- k bytes from place `at` were lent; `last` is what the copy left of them
@@ -21,3 +22,12 @@ copied at k bytes before last inside fits e =
     ∙ ap (drop (length bytes)) (take-append-drop k rest)
     ∙ drop-drop (length bytes) at before in
     rw (e, take-length, append-assoc, back)
+
+-- what is left of a part that was lent stands where the part stood
+pub put-over : (at k : ℕ) (before last : List ℕ) → length last ≡ k → putMid at k before last ≡ over at last before
+unfolding over
+put-over at k before last e = rw (← e) (ap (λ (l : List ℕ). take at before ++ (last ++ l)) (drop-drop (length last) at before))
+
+-- a copy to the front of a buffer
+pub copied-front : (bytes before last : List ℕ) → last ≡ take (length bytes) bytes ++ drop (length bytes) before → last ≡ front bytes before
+copied-front bytes before last e = e ∙ ap (λ (l : List ℕ). l ++ drop (length bytes) before) (take-length bytes)

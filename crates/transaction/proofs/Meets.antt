@@ -2,17 +2,15 @@
 -- Assumes nothing.
 use Prim.Native.Nat.{ℕ}
 use mathlib.Core.Path.{_≡_, refl, sym, _∙_}
-use mathlib.Core.Bool.{Bool, true, false}
 use mathlib.Core.List.{List, [], _∷_}
-use lib.Dec.{eqb}
 use Rattle.wire.specs.Told.{Told, given, refused}
-use Rattle.wire.specs.Rules.{pick}
 use Rattle.block.specs.Signature.{noSignature, signatureIn}
 use Rattle.protocol.specs.CommandMeets.{CommandMeets, commandTold, commandErrorNumber, commandErrorValues}
 use Rattle.protocol.specs.declared.CommandBlock.{CommandBlock}
 use Rattle.protocol.specs.declared.CommandBlockParseError.{CommandBlockParseError}
 use Rattle.protocol.specs.declared.CommandParse.{CommandParse}
 use Rattle.protocol.specs.declared.CommandAnswer.the-variants.{Refused}
+use Rattle.answer.proofs.Telling.{answers-error, answers-done}
 use Rattle.answer.specs.Told.{errorTold, errorValues, resultTold, innerSignature, signatureBeside, Answers}
 use Rattle.answer.specs.declared.error.MockTransportError.{MockTransportError}
 use Rattle.transaction.specs.Turn.{Turn, refuses, done, OutcomeMeets, refusedWith, settled, blockResult, blockRefused}
@@ -22,23 +20,16 @@ use Rattle.transaction.specs.declared.session.LastReset.{LastReset}
 use Rattle.transaction.specs.declared.outcome.Effect.{Effect}
 use Rattle.transaction.specs.declared.outcome.Outcome.{Outcome}
 
--- no refusal but 56 tells a signature
-quiet : (number : ℕ) (values : List ℕ) → eqb number 56 ≡ false → signatureBeside (refused number values) ≡ noSignature
-unfolding signatureBeside innerSignature
-quiet number [] h = refl
-quiet number (value ∷ values) h = rw h
-
 pub refused-as : {r : Outcome} {t : Turn} (last : LastReset) (error : MockTransportError) (number : ℕ) (values : List ℕ)
-    → errorTold {A = Unit} error noSignature ≡ refused number values → eqb number 56 ≡ false
-    → r ≡ refusedWith last error → t ≡ refuses last number values → OutcomeMeets r t
-unfolding refuses resultTold
-refused-as last error number values told other e f =
-    rw (e, f) (record { tells = record { tells = told; signature = sym (quiet number values other) }; next = refl; effect = refl })
+    → errorTold {A = Unit} error noSignature ≡ refused number values → r ≡ refusedWith last error → t ≡ refuses last number values → OutcomeMeets r t
+unfolding refuses
+refused-as last error number values told e f =
+    rw (e, f) (record { tells = answers-error error (refused number values) told; next = refl; effect = refl })
 
 pub done-as : {r : Outcome} {t : Turn} (state : CommandState) (last : LastReset) (effect : Effect)
     → r ≡ settled state last effect → t ≡ done state last effect → OutcomeMeets r t
-unfolding done resultTold signatureBeside
-done-as state last effect e f = rw (e, f) (record { tells = record { tells = refl; signature = refl }; next = refl; effect = refl })
+unfolding done
+done-as state last effect e f = rw (e, f) (record { tells = answers-done; next = refl; effect = refl })
 
 -- 56: bytes that are no command
 pub block-refused : {r : Outcome} (parse : CommandParse) (told : Told CommandBlock) → CommandMeets parse told → (error : CommandBlockParseError)

@@ -23,7 +23,7 @@ returns c =
     let a = c .before .before .before .before .args in
     let far = outside (a .sectors) (a .command .«cd_address») (a .command .«cd_length»)
     (sym (c .before .before .before .flash-range .ensures) ∙ c .before .enum-told .given .1) in
-    refused-as (a .reset) OutOfRange 57 [] refl refl (c .refuse .ensures) (rw far refl)
+    refused-as (a .reset) OutOfRange 57 [] refl (c .refuse .ensures) (rw far refl)
 
 returns-2 : tie.Need-returns-2
 unfolding sectorTurn orRefuse errorValues
@@ -33,7 +33,7 @@ returns-2 c =
     let expected = a .command .«cd_length» * sectorSize in
     let fit = within (a .sectors) (a .command .«cd_address») (a .command .«cd_length») (s .range .given .0 .0)
     (sym (s .before .before .flash-range .ensures) ∙ s .range .given .1) in
-    refused-as (a .reset) (InvalidTransferLength expected (a .actual)) 50 (expected ∷ a .actual ∷ []) refl refl (c .refuse2 .ensures)
+    refused-as (a .reset) (InvalidTransferLength expected (a .actual)) 50 (expected ∷ a .actual ∷ []) refl (c .refuse2 .ensures)
     (rw (fit .0, ne-eqb (a .actual) expected (c .before .if1 .taken)) refl)
 
 returns-3 : tie.Need-returns-3

@@ -19,7 +19,7 @@ unfolding replyTurn orRefuse errorValues
 returns c =
     let z = c .before .before .reply-size in
     let a = c .before .before .before .args in
-    refused-as (a .reset) (InvalidTransferLength (z .result) (a .actual)) 50 (z .result ∷ a .actual ∷ []) refl refl (c .refuse .ensures)
+    refused-as (a .reset) (InvalidTransferLength (z .result) (a .actual)) 50 (z .result ∷ a .actual ∷ []) refl (c .refuse .ensures)
     (rw (← z .ensures, ne-eqb (a .actual) (z .result) (c .before .if1 .taken)) refl)
 
 returns-2 : tie.Need-returns-2

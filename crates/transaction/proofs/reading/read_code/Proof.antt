@@ -33,7 +33,7 @@ returns-5 c = rw (sym (c .before .before .before .before .before .before .before
 returns-6 : tie.Need-returns-6
 unfolding codeTurn errorValues
 returns-6 c =
-    refused-as (c .before .before .before .before .before .before .before .before .before .before .before .args .reset) UnexpectedRead 54 [] refl refl (c .refuse .ensures)
+    refused-as (c .before .before .before .before .before .before .before .before .before .before .before .args .reset) UnexpectedRead 54 [] refl (c .refuse .ensures)
     (rw (sym (c .before .before .before .before .before .before .before .before .before .before .has-code .ensures) ∙ c .before .before .before .before .before .before .before .before .before .if1 .left, sym (c .before .before .before .before .before .before .before .before .has-code2 .ensures) ∙ c .before .before .before .before .before .before .before .if2 .left, sym (c .before .before .before .before .before .before .has-code3 .ensures) ∙ c .before .before .before .before .before .if3 .left, sym (c .before .before .before .before .has-code4 .ensures) ∙ c .before .before .before .if4 .left, sym (c .before .before .has-code5 .ensures) ∙ c .before .if5 .left) refl)
 
 pub read-code-spec : {M : Type 1} → statement M

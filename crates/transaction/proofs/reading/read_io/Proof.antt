@@ -15,7 +15,7 @@ use Rattle.transaction.proofs.reading.read_io.Tie as tie
 returns : tie.Need-returns
 unfolding readIoTurn orRefuse isIn errorValues
 returns c =
-    refused-as (c .before .before .before .args .reset) UnexpectedRead 54 [] refl refl (c .refuse .ensures)
+    refused-as (c .before .before .before .args .reset) UnexpectedRead 54 [] refl (c .refuse .ensures)
     (rw (ap isIn (c .before .enum-told2 .given .1)) refl)
 
 returns-2 : tie.Need-returns-2

@@ -16,7 +16,7 @@ returns : tie.Need-returns
 unfolding readRow errorValues
 returns c =
     let a = c .before .before .before .args in
-    refused-as (a .session .«last_reset») UnexpectedRead 54 [] refl refl (c .refuse .ensures)
+    refused-as (a .session .«last_reset») UnexpectedRead 54 [] refl (c .refuse .ensures)
     (ap (λ (x : CommandState). readRow x (a .session .«last_reset») (a .sectors) (a .actual)) (c .before .enum-told .given .1))
 
 returns-2 : tie.Need-returns-2

@@ -20,7 +20,7 @@ unfolding statusTurn orRefuse errorValues
 returns c =
     let z = c .before .before .reply-size in
     let a = c .before .before .before .args in
-    refused-as (a .reset) UnexpectedRead 54 [] refl refl (c .refuse .ensures)
+    refused-as (a .reset) UnexpectedRead 54 [] refl (c .refuse .ensures)
     (rw (← z .ensures, ne-eqb (a .actual) (z .result) (c .before .if1 .taken)) refl)
 
 returns-2 : tie.Need-returns-2

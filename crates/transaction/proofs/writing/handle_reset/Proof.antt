@@ -26,7 +26,7 @@ returns c =
     let read : resetOf byte ≡ refused 52 (byte ∷ []) =
     known-refused 52 resetNumber resetOpcodes byte 52 (c .before .enum-told .given .0 .0 ∷ [])
     (sym (s .from-number .ensures) ∙ ap resetReadTold (c .before .enum-told .given .1)) in
-    refused-as (a .reset) (InvalidReset byte) 52 (byte ∷ []) refl refl (c .refuse .ensures) (rw read refl)
+    refused-as (a .reset) (InvalidReset byte) 52 (byte ∷ []) refl (c .refuse .ensures) (rw read refl)
 
 returns-2 : tie.Need-returns-2
 unfolding storedReset resetReadTold

@@ -25,7 +25,7 @@ returns c =
     let erases = sym (s .before .before .is-erase .ensures) ∙ s .before .if1 .taken in
     let far = outside (a .sectors) (a .command .«cd_address») (a .command .«cd_length»)
     (sym (s .flash-range .ensures) ∙ c .before .enum-told .given .1) in
-    refused-as (a .reset) OutOfRange 57 [] refl refl (c .refuse .ensures) (rw (erases, far) refl)
+    refused-as (a .reset) OutOfRange 57 [] refl (c .refuse .ensures) (rw (erases, far) refl)
 
 returns-2 : tie.Need-returns-2
 unfolding zeroLengthTurn orRefuse
@@ -52,7 +52,7 @@ unfolding zeroLengthTurn errorValues
 returns-4 c =
     let s = c .before .before .before .before in
     let a = s .before .args in
-    refused-as (a .reset) (UnknownCommand (a .command .«cd_code»)) 53 (codeNumber (a .command .«cd_code») ∷ []) refl refl (c .refuse2 .ensures)
+    refused-as (a .reset) (UnknownCommand (a .command .«cd_code»)) 53 (codeNumber (a .command .«cd_code») ∷ []) refl (c .refuse2 .ensures)
     (rw (sym (s .is-erase .ensures) ∙ c .before .before .before .if1 .left, sym (c .before .before .has-code .ensures) ∙ c .before .if2 .left) refl)
 
 pub handle-zero-length-command-spec : {M : Type 1} → statement M

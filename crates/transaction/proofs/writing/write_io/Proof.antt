@@ -16,14 +16,14 @@ use Rattle.transaction.proofs.writing.write_io.Tie as tie
 returns : tie.Need-returns
 unfolding writeIoTurn orRefuse isOut errorValues
 returns c =
-    refused-as (c .before .before .before .args .reset) UnexpectedWrite 55 [] refl refl (c .refuse .ensures)
+    refused-as (c .before .before .before .args .reset) UnexpectedWrite 55 [] refl (c .refuse .ensures)
     (rw (ap isOut (c .before .enum-told2 .given .1)) refl)
 
 returns-2 : tie.Need-returns-2
 unfolding writeIoTurn orRefuse isOut errorValues
 returns-2 c =
     let h = c .before .before .has-code in
-    refused-as (c .before .before .before .before .before .args .reset) UnexpectedWrite 55 [] refl refl (c .refuse2 .ensures)
+    refused-as (c .before .before .before .before .before .args .reset) UnexpectedWrite 55 [] refl (c .refuse2 .ensures)
     (rw (ap isOut (c .before .before .before .enum-told .given .1), sym (h .ensures) ∙ not-true (h .result) (c .before .if1 .taken)) refl)
 
 returns-3 : tie.Need-returns-3

@@ -33,7 +33,7 @@ returns-3 : tie.Need-returns-3
 unfolding writeRow errorValues
 returns-3 c =
     let a = c .before .before .before .before .args in
-    refused-as (a .session .«last_reset») UnexpectedWrite 55 [] refl refl (c .refuse .ensures)
+    refused-as (a .session .«last_reset») UnexpectedWrite 55 [] refl (c .refuse .ensures)
     (ap (λ (x : CommandState). writeRow x (a .session .«last_reset») (a .sectors) (now (a .«data»))) (c .before .enum-told2 .given .1))
 
 pub write-outcome-spec : {M : Type 1} → statement M

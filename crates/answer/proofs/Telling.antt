@@ -1,0 +1,42 @@
+-- The answers that the code makes tell what they should.
+-- Assumes nothing.
+use Prim.Native.Nat.{ℕ}
+use mathlib.Core.Path.{_≡_, refl, ap, sym, _∙_}
+use mathlib.Core.List.{List, [], _∷_}
+use Rattle.wire.specs.Told.{Told, given, refused}
+use Rattle.block.specs.Signature.{noSignature, signatureIn}
+use Rattle.protocol.specs.CommandMeets.{commandErrorNumber, commandErrorValues}
+use Rattle.protocol.specs.declared.CommandBlockParseError.the-variants.{InvalidSignature, UnknownCommandCode, UnknownFlags, InvalidLength}
+use Rattle.answer.specs.Told.{errorTold, errorValues, resultTold, innerSignature, signatureBeside, Answers}
+use Rattle.answer.specs.declared.error.MockTransportError.{MockTransportError}
+use Rattle.answer.specs.declared.error.MockTransportError.the-variants.{InvalidTransferLength, UnsupportedControl, InvalidReset, UnknownCommand, UnexpectedRead, UnexpectedWrite, CommandBlockError, OutOfRange, NoSlot, SlotFull, FlashSize, TooManySectors, StoreLength}
+use Rattle.answer.specs.declared.error.MockResult.the-variants.{Done, Refused}
+
+-- beside zeros no refusal tells a signature but zeros
+beside-error : (error : MockTransportError) → signatureBeside (errorTold error noSignature) ≡ noSignature
+unfolding signatureBeside innerSignature errorValues signatureIn commandErrorNumber commandErrorValues
+beside-error (InvalidTransferLength expected actual) = refl
+beside-error (UnsupportedControl type request value) = refl
+beside-error (InvalidReset opcode) = refl
+beside-error (UnknownCommand code) = refl
+beside-error UnexpectedRead = refl
+beside-error UnexpectedWrite = refl
+beside-error (CommandBlockError (InvalidLength n)) = refl
+beside-error (CommandBlockError InvalidSignature) = refl
+beside-error (CommandBlockError (UnknownFlags byte)) = refl
+beside-error (CommandBlockError (UnknownCommandCode byte)) = refl
+beside-error OutOfRange = refl
+beside-error NoSlot = refl
+beside-error SlotFull = refl
+beside-error (FlashSize n) = refl
+beside-error TooManySectors = refl
+beside-error StoreLength = refl
+
+pub answers-error : (error : MockTransportError) (told : Told Unit) → errorTold error noSignature ≡ told
+    → Answers (record { result = Refused error; signature = noSignature }) told
+unfolding resultTold
+answers-error error told e = record { tells = e; signature = sym (beside-error error) ∙ ap signatureBeside e }
+
+pub answers-done : Answers (record { result = Done; signature = noSignature }) (given tt)
+unfolding resultTold signatureBeside
+answers-done = record { tells = refl; signature = refl }

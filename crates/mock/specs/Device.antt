@@ -1,0 +1,137 @@
+-- Every call over the device's whole record.
+-- Assumes nothing.
+use Prim.Native.Nat.{ℕ}
+use mathlib.Core.Path.{_≡_}
+use mathlib.Core.Bool.{Bool, false, not}
+use mathlib.Core.List.{List, [], _∷_}
+use lib.Dec.{eqb}
+use lib.ListN.{length}
+use Rattle.wire.specs.Told.{Told, given, refused, andThen}
+use Rattle.wire.specs.Rules.{Rule, rule, pick}
+use Rattle.block.specs.Signature.{noSignature}
+use Rattle.lent.specs.Outcome.{orRefuse}
+use Rattle.areas.specs.Slots.{freshAreas, areaFound}
+use Rattle.areas.specs.Append.{Appending, appendStep}
+use Rattle.areas.specs.declared.Areas.{Areas}
+use Rattle.areas.specs.declared.AreaFound.{AreaFound}
+use Rattle.areas.specs.declared.AreaStep.{AreaStep}
+use Rattle.areas.specs.declared.AreaAnswer.{AreaAnswer}
+use Rattle.areas.specs.declared.AreaAnswer.the-variants.{Written, NoSlot, SlotFull}
+use Rattle.answer.specs.Told.{Answers}
+use Rattle.answer.specs.Flash.{flashSectors}
+use Rattle.answer.specs.declared.error.MockTransportError.{MockTransportError}
+use Rattle.answer.specs.declared.error.MockTransportError.the-variants as error
+use Rattle.answer.specs.declared.error.MockResult.{MockResult}
+use Rattle.answer.specs.declared.error.MockResult.the-variants.{Done, Refused}
+use Rattle.transaction.specs.declared.session.Session.{Session}
+use Rattle.transaction.specs.declared.session.CommandState.the-variants as state
+use Rattle.transaction.specs.declared.session.LastReset.the-variants as reset
+use Rattle.mock.specs.Steps.{Step, writeStep, readStep}
+use Rattle.mock.specs.declared.config.MockDeviceConfig.{MockDeviceConfig}
+use Rattle.mock.specs.declared.steps.SessionStep.{SessionStep}
+use Rattle.mock.specs.declared.device.MockState.{MockState}
+use Rattle.mock.specs.declared.device.MockStep.{MockStep}
+
+-- what is told, the next record, and the bytes lent mutably as they are left: flash, buffer or store
+pub record Call : Type 0 where
+  pub told : Told Unit
+  pub next : MockState
+  pub leaves : List ℕ
+
+-- a call that answers r and leaves its bytes `after`
+pub record MockMeets (r : MockStep) (after : List ℕ) (c : Call) : Type 0 where
+  pub tells : Answers (r .answer) (c .told)
+  pub next : r .state ≡ c .next
+  pub leaves : after ≡ c .leaves
+
+-- creation: what is told, and the record
+pub record Creation : Type 0 where
+  pub told : Told Unit
+  pub fresh : MockState
+
+pub record CreateMeets (r : MockStep) (c : Creation) : Type 0 where
+  pub tells : Answers (r .answer) (c .told)
+  pub fresh : r .state ≡ c .fresh
+
+-- no area held, no reset, no transaction
+unfoldable pub freshState : MockDeviceConfig → ℕ → MockState
+freshState config storeLength =
+    record { config = config; areas = freshAreas; «store_length» = storeLength; «last_reset» = reset.None; «current_command» = state.None }
+
+-- 60 and 61 at creation; beside a refusal stands the record as if unrefused
+unfoldable pub created : MockDeviceConfig → ℕ → ℕ → Creation
+created config flashLength storeLength =
+    record { told = andThen (flashSectors flashLength) (λ sectors. given tt); fresh = freshState config storeLength }
+
+abbrev pub sessionOf : MockState → Session
+sessionOf s = record { «current_command» = s .«current_command»; «last_reset» = s .«last_reset» }
+
+-- the record with another session, or with other areas
+abbrev pub withSession : MockState → Session → MockState
+withSession s session =
+    record {
+      config = s .config;
+      areas = s .areas;
+      «store_length» = s .«store_length»;
+      «last_reset» = session .«last_reset»;
+      «current_command» = session .«current_command»;
+    }
+
+abbrev pub withAreas : MockState → Areas → MockState
+withAreas s areas =
+    record {
+      config = s .config;
+      areas = areas;
+      «store_length» = s .«store_length»;
+      «last_reset» = s .«last_reset»;
+      «current_command» = s .«current_command»;
+    }
+
+-- a bulk call is a step of the session
+abbrev pub bulk : MockState → Step → Call
+bulk s step = record { told = step .told; next = withSession s (step .next); leaves = step .leaves }
+
+unfoldable pub writeBulk : MockState → List ℕ → List ℕ → Call
+writeBulk s flash bytes = bulk s (writeStep (sessionOf s) flash bytes)
+
+unfoldable pub readBulk : MockState → List ℕ → List ℕ → Call
+readBulk s flash buffer = bulk s (readStep (sessionOf s) (s .config) flash buffer)
+
+-- type 0x40, request 0xc, value 0
+unfoldable pub isUpload : ℕ → ℕ → ℕ → Bool
+isUpload type request value = pick (eqb type 0x40) (pick (eqb request 0xc) (eqb value 0) false) false
+
+-- 65: the lent store isn't as long as at creation; 51: (type, request, value)
+unfoldable pub controlRules : MockState → ℕ → ℕ → ℕ → ℕ → List Rule
+controlRules s type request value n =
+    rule (not (eqb n (s .«store_length»))) 65 [] ∷ rule (not (isUpload type request value)) 51 (type ∷ request ∷ value ∷ []) ∷ []
+
+-- order: 65, 51, then the area's 58 and 59; control calls don't touch the transaction
+unfoldable pub writeControl : MockState → ℕ → ℕ → ℕ → ℕ → List ℕ → List ℕ → Call
+writeControl s type request value index bytes store =
+    orRefuse (λ number values. record { told = refused number values; next = s; leaves = store })
+    (controlRules s type request value (length store))
+    (record {
+      told = appendStep (s .areas) index bytes store .told;
+      next = withAreas s (appendStep (s .areas) index bytes store .next);
+      leaves = appendStep (s .areas) index bytes store .store;
+    })
+
+-- where an area's bytes stand, looked up by number
+abbrev pub maskromArea : MockState → ℕ → AreaFound
+maskromArea s number = areaFound (s .areas) number (s .«store_length»)
+
+-- the steps as the code makes them
+unfoldable pub areaResult : AreaAnswer → MockResult
+areaResult Written = Done
+areaResult NoSlot = Refused error.NoSlot
+areaResult SlotFull = Refused error.SlotFull
+
+abbrev pub afterSession : MockState → SessionStep → MockStep
+afterSession s step = record { answer = step .answer; state = withSession s (step .session) }
+
+abbrev pub afterAreas : MockState → AreaStep → MockStep
+afterAreas s step = record { answer = record { result = areaResult (step .answer); signature = noSignature }; state = withAreas s (step .areas) }
+
+abbrev pub refusedBy : MockState → MockTransportError → MockStep
+refusedBy s e = record { answer = record { result = Refused e; signature = noSignature }; state = s }

@@ -1,0 +1,5 @@
+// The stand-in device, after rockusb-mock: what its transaction table answers is applied to a lent flash, a lent buffer and a lent store.
+mod apply;
+pub mod config;
+pub mod device;
+pub mod steps;
