@@ -24,8 +24,8 @@ use crate::told::nine;
 use crate::told::none;
 use crate::told::one;
 use crate::told::outside;
+use crate::told::plain;
 use crate::told::three;
-use crate::told::with_room;
 use block::output::Written;
 use codes::Status;
 use codes::StatusRead;
@@ -236,12 +236,16 @@ fn put_draft(drafted: Drafted, room: &mut [u8]) -> Told {
     }
 }
 
+fn put_out(drafted: Drafted, len: Token, byte: Token, scratch: &mut [u8]) -> Answer {
+    fill(scratch, len.as_usize(), byte.as_u8());
+    let n = within(len.as_usize(), scratch);
+    plain(put_draft(drafted, &mut scratch[..n])).with_room(n)
+}
+
 // `cwr`, `cnv`, `swr`: OUTLEN FILL, and what is to be written to the filled scratch
 pub(crate) fn write(line: &[u8], name: Token, scratch: &mut [u8]) -> Answer {
     let len = number(line, name, LEN);
     let byte = number(line, len, U8);
     let drafted = draft_of(line, name.value, byte, scratch);
-    fill(scratch, len.as_usize(), byte.as_u8());
-    let n = within(len.as_usize(), scratch);
-    with_room(put_draft(drafted, &mut scratch[..n]), n)
+    put_out(drafted, len, byte, scratch)
 }

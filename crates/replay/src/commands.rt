@@ -79,13 +79,13 @@ fn ranged(op: u64, tag: u32, first: u32, count: u16) -> Built {
 }
 
 // What an operation's arguments may be: how many, and the most of each.
-pub(crate) struct Wanted {
+struct Wanted {
     pub count: usize,
     pub first: u64,
     pub second: u64,
 }
 
-pub(crate) fn arguments(op: u64) -> Wanted {
+fn arguments(op: u64) -> Wanted {
     match op {
         ERA | ERF | RDL | WRL => Wanted {
             count: 2,
@@ -111,11 +111,35 @@ pub(crate) fn arguments(op: u64) -> Wanted {
 }
 
 // A number, or nothing read where there is none to read.
-pub(crate) fn argument(line: &[u8], before: Token, is_there: bool, most: u64) -> Token {
+fn argument(line: &[u8], before: Token, is_there: bool, most: u64) -> Token {
     if is_there {
         number(line, before, most)
     } else {
         before
+    }
+}
+
+// OP TAG ARGS, whether they were all of the line, and of the language.
+pub(crate) struct Parsed {
+    pub op: u64,
+    pub tag: u32,
+    pub first: Token,
+    pub second: Token,
+    pub is_whole: bool,
+}
+
+pub(crate) fn parse(line: &[u8], before: Token) -> Parsed {
+    let op = name(line, before);
+    let tag = number(line, op, U32);
+    let wanted = arguments(op.value);
+    let first = argument(line, tag, wanted.count > 0, wanted.first);
+    let second = argument(line, first, wanted.count > 1, wanted.second);
+    Parsed {
+        op: op.value,
+        tag: tag.as_u32(),
+        first,
+        second,
+        is_whole: is_end(line, second),
     }
 }
 
@@ -128,16 +152,12 @@ fn block(op: u64, tag: u32, first: Token, second: Token) -> Built {
     }
 }
 
-// OP TAG ARGS, up to the end of the line.
 pub(crate) fn command(line: &[u8], before: Token) -> Built {
-    let op = name(line, before);
-    let tag = number(line, op, U32);
-    let wanted = arguments(op.value);
-    let first = argument(line, tag, wanted.count > 0, wanted.first);
-    let second = argument(line, first, wanted.count > 1, wanted.second);
-    if is_end(line, second) {
-        block(op.value, tag.as_u32(), first, second)
-    } else {
-        Built::Nothing
+    let parsed = parse(line, before);
+    if !parsed.is_whole {
+        return Built::Nothing;
     }
+    let first = parsed.first;
+    let second = parsed.second;
+    block(parsed.op, parsed.tag, first, second)
 }

@@ -6,6 +6,7 @@ mod input;
 mod line;
 mod names;
 mod numbers;
+mod operations;
 mod out;
 mod replies;
 mod told;
@@ -15,6 +16,8 @@ use libc::STDOUT_FILENO;
 use line::call;
 use names::Group;
 use names::group_of;
+use operations::Current;
+use operations::Operated;
 use told::Told;
 use told::outside;
 use told::plain;
@@ -24,6 +27,7 @@ use uploads::Uploaded;
 // The things that stay from line to line, beside their buffers.
 struct World {
     upload: Upload,
+    operation: Current,
 }
 
 struct Answered {
@@ -42,11 +46,26 @@ fn told_only(told: Told, world: World) -> Answered {
 fn with_upload(done: Uploaded, world: World) -> Answered {
     let answer = done.answer;
     let upload = done.upload;
-    let world = World { upload };
+    let operation = world.operation;
+    let world = World { upload, operation };
     Answered { answer, world }
 }
 
-fn answer_call(line: &[u8], world: World, scratch: &mut [u8], image: &mut [u8]) -> Answered {
+fn with_operation(done: Operated, world: World) -> Answered {
+    let answer = done.answer;
+    let upload = world.upload;
+    let operation = done.current;
+    let world = World { upload, operation };
+    Answered { answer, world }
+}
+
+fn answer_call(
+    line: &[u8],
+    world: World,
+    scratch: &mut [u8],
+    image: &mut [u8],
+    own: &mut [u8],
+) -> Answered {
     let name = call(line);
     match group_of(name.value) {
         Group::Numbers => told_only(numbers::answer(line, name), world),
@@ -54,8 +73,17 @@ fn answer_call(line: &[u8], world: World, scratch: &mut [u8], image: &mut [u8]) 
         Group::Reads => told_only(blocks::read(line, name, scratch), world),
         Group::Writes => stays(blocks::write(line, name, scratch), world),
         Group::Replies => stays(replies::read(line, name, scratch), world),
-        Group::Start => with_upload(uploads::start(line, name, image), world),
-        Group::Step => with_upload(
+        Group::Open => with_operation(operations::open(line, name, own), world),
+        Group::Step => with_operation(
+            operations::step(line, name, world.operation, own, scratch),
+            world,
+        ),
+        Group::Give => with_operation(
+            operations::give(line, name, world.operation, own, scratch),
+            world,
+        ),
+        Group::UploadStart => with_upload(uploads::start(line, name, image), world),
+        Group::UploadStep => with_upload(
             uploads::step(line, name, world.upload, image, scratch),
             world,
         ),
@@ -98,10 +126,11 @@ fn answer_line(
     at: usize,
     scratch: &mut [u8],
     image: &mut [u8],
+    own: &mut [u8],
 ) -> Printed {
     let n = out::within(line_length(len, line.len()), line);
-    let done = answer_call(&line[..n], world, scratch, image);
-    let next = out::answer(out, at, done.answer, scratch);
+    let done = answer_call(&line[..n], world, scratch, image, own);
+    let next = out::answer(out, at, done.answer, scratch, own);
     let world = done.world;
     Printed {
         at: end_line(out, next),
@@ -109,9 +138,21 @@ fn answer_line(
     }
 }
 
-fn run(block: &mut [u8], line: &mut [u8], out: &mut [u8], scratch: &mut [u8], image: &mut [u8]) {
+fn new_world() -> World {
     let upload = uploads::no_upload();
-    let world = World { upload };
+    let operation = operations::no_operation();
+    World { upload, operation }
+}
+
+fn run(
+    block: &mut [u8],
+    line: &mut [u8],
+    out: &mut [u8],
+    scratch: &mut [u8],
+    image: &mut [u8],
+    own: &mut [u8],
+) {
+    let world = new_world();
     let mut printed = Printed { at: 0, world };
     let mut input = input::next_line(block, line, input::start());
     let mut turns = u64::MAX;
@@ -124,6 +165,7 @@ fn run(block: &mut [u8], line: &mut [u8], out: &mut [u8], scratch: &mut [u8], im
             printed.at,
             scratch,
             image,
+            own,
         );
         input = input::next_line(block, line, input);
         turns -= 1;
@@ -137,5 +179,13 @@ fn main() {
     let mut out = [0u8; 65536];
     let mut scratch = [0u8; 100000];
     let mut image = [0u8; 100000];
-    run(&mut block, &mut line, &mut out, &mut scratch, &mut image);
+    let mut own = [0u8; 65536];
+    run(
+        &mut block,
+        &mut line,
+        &mut out,
+        &mut scratch,
+        &mut image,
+        &mut own,
+    );
 }

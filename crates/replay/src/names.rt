@@ -44,6 +44,12 @@ pub(crate) const WRL: u64 = 0x77726c;
 pub(crate) const RST: u64 = 0x727374;
 
 pub(crate) const SWI: u64 = 0x737769;
+// operations
+pub(crate) const OPN: u64 = 0x6f706e;
+
+pub(crate) const STP: u64 = 0x737470;
+
+pub(crate) const GIV: u64 = 0x676976;
 // uploads
 pub(crate) const UPL: u64 = 0x75706c;
 
@@ -59,8 +65,11 @@ pub(crate) enum Group {
     Writes,
     Replies,
     Size,
-    Start,
+    Open,
     Step,
+    Give,
+    UploadStart,
+    UploadStep,
     All,
     Cut,
     Nothing,
@@ -73,8 +82,11 @@ pub(crate) fn group_of(name: u64) -> Group {
         CWR | CNV | SWR => Group::Writes,
         CHP | FID | FIN | CAP => Group::Replies,
         SEC => Group::Size,
-        UPL => Group::Start,
-        UST => Group::Step,
+        OPN => Group::Open,
+        STP => Group::Step,
+        GIV => Group::Give,
+        UPL => Group::UploadStart,
+        UST => Group::UploadStep,
         ALL => Group::All,
         CUT => Group::Cut,
         _ => Group::Nothing,

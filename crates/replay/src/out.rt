@@ -126,11 +126,20 @@ fn first_text(out: &mut [u8], at: usize, buffer: &[u8], n: usize) -> usize {
     text(out, at, &buffer[..n])
 }
 
-fn tail(out: &mut [u8], at: usize, tail: Tail, small: &[u8; 16], scratch: &[u8]) -> usize {
+fn tail(
+    out: &mut [u8],
+    at: usize,
+    tail: Tail,
+    small: &[u8; 16],
+    scratch: &[u8],
+    own: &[u8],
+) -> usize {
     match tail {
         Tail::Nothing => at,
         Tail::Small(n) => spaced_bytes(out, at, small, n),
         Tail::Text(n) => first_text(out, at, scratch, n),
+        Tail::Room(n) => spaced_bytes(out, at, scratch, n),
+        Tail::Own(n) => spaced_bytes(out, at, own, n),
     }
 }
 
@@ -143,7 +152,13 @@ fn section(out: &mut [u8], at: usize, is_there: bool, buffer: &[u8], n: usize) -
     first_bytes(out, next, buffer, n)
 }
 
-pub(crate) fn answer(out: &mut [u8], at: usize, answer: Answer, scratch: &[u8]) -> usize {
+pub(crate) fn answer(
+    out: &mut [u8],
+    at: usize,
+    answer: Answer,
+    scratch: &[u8],
+    own: &[u8],
+) -> usize {
     let told = answer.told;
     if told.number == OUTSIDE {
         return text(out, at, b"outside");
@@ -151,6 +166,7 @@ pub(crate) fn answer(out: &mut [u8], at: usize, answer: Answer, scratch: &[u8]) 
     let next = self::told(out, at, told);
     let tail = answer.tail;
     let small = answer.small;
-    let next = self::tail(out, next, tail, &small, scratch);
-    section(out, next, answer.has_room, scratch, answer.room)
+    let next = self::tail(out, next, tail, &small, scratch, own);
+    let next = section(out, next, answer.has_room, scratch, answer.room);
+    section(out, next, answer.has_own, own, answer.own)
 }

@@ -37,19 +37,38 @@ fn widened(bytes: &[u8]) -> [u8; 16] {
     wide
 }
 
-fn chip_info(bytes: &[u8]) -> Answer {
-    let inner = ChipInfo::from_bytes(widened(bytes)).inner();
-    with_small(none(0), inner, 16)
+pub(crate) fn chip_value(info: ChipInfo) -> Answer {
+    with_small(none(0), info.inner(), 16)
 }
 
-fn flash_id(bytes: &[u8]) -> Answer {
-    let mut id = [0u8; 5];
-    copy(bytes, &mut id);
-    let inner = FlashId::from_bytes(id).inner();
+pub(crate) fn id_value(id: FlashId) -> Answer {
+    let inner = id.inner();
     with_small(none(0), widened(&inner), 5)
 }
 
-fn info(info: FlashInfo) -> Told {
+pub(crate) fn info_value(told: Told, info: FlashInfo) -> Answer {
+    let inner = info.inner();
+    with_small(told, widened(&inner), 11)
+}
+
+pub(crate) fn capability_value(told: Told, capability: Capability) -> Answer {
+    let inner = capability.inner();
+    with_small(told, widened(&inner), 8)
+}
+
+fn flash_id(bytes: &[u8]) -> FlashId {
+    let mut id = [0u8; 5];
+    copy(bytes, &mut id);
+    FlashId::from_bytes(id)
+}
+
+fn flash_info(bytes: &[u8]) -> FlashInfo {
+    let mut info = [0u8; 11];
+    copy(bytes, &mut info);
+    FlashInfo::from_bytes(info)
+}
+
+fn info_told(info: FlashInfo) -> Told {
     three(
         0,
         info.sectors() as u64,
@@ -58,12 +77,8 @@ fn info(info: FlashInfo) -> Told {
     )
 }
 
-fn flash_info(bytes: &[u8]) -> Answer {
-    let mut info = [0u8; 11];
-    copy(bytes, &mut info);
-    let info = FlashInfo::from_bytes(info);
-    let inner = info.inner();
-    with_small(self::info(info), widened(&inner), 11)
+fn info_answer(info: FlashInfo) -> Answer {
+    info_value(info_told(info), info)
 }
 
 fn flag(is_set: bool) -> u64 {
@@ -87,12 +102,14 @@ fn flags(capability: Capability) -> Told {
     )
 }
 
-fn capability(bytes: &[u8]) -> Answer {
+fn capability(bytes: &[u8]) -> Capability {
     let mut flags = [0u8; 8];
     copy(bytes, &mut flags);
-    let capability = Capability::from_bytes(flags);
-    let inner = capability.inner();
-    with_small(self::flags(capability), widened(&inner), 8)
+    Capability::from_bytes(flags)
+}
+
+fn capability_answer(capability: Capability) -> Answer {
+    capability_value(flags(capability), capability)
 }
 
 fn length(name: u64) -> usize {
@@ -109,10 +126,10 @@ fn read_as(name: u64, bytes: &[u8]) -> Answer {
         return plain(outside());
     }
     match name {
-        CHP => chip_info(bytes),
-        FID => flash_id(bytes),
-        FIN => flash_info(bytes),
-        CAP => capability(bytes),
+        CHP => chip_value(ChipInfo::from_bytes(widened(bytes))),
+        FID => id_value(flash_id(bytes)),
+        FIN => info_answer(flash_info(bytes)),
+        CAP => capability_answer(capability(bytes)),
         _ => plain(outside()),
     }
 }

@@ -71,6 +71,19 @@ pub(crate) fn nine(number: u64, values: [u64; 9]) -> Told {
     }
 }
 
+// A told with the same values behind a 3: a step that is the finish.
+pub(crate) fn finish(told: Told) -> Told {
+    let v = told.values;
+    if told.number != 0 {
+        return told;
+    }
+    Told {
+        number: 0,
+        count: std::num::wrapping_add_usize(told.count, 1),
+        values: [3, v[0], v[1], 0, 0, 0, 0, 0, 0],
+    }
+}
+
 // Bytes that stand behind the values.
 pub(crate) enum Tail {
     Nothing,
@@ -78,15 +91,21 @@ pub(crate) enum Tail {
     Small(usize),
     // the first bytes of the scratch as they are: a text with a space before it
     Text(usize),
+    // the first bytes of the scratch
+    Room(usize),
+    // the first bytes of the current operation's data
+    Own(usize),
 }
 
 pub(crate) struct Answer {
     pub told: Told,
     pub tail: Tail,
     pub small: [u8; 16],
-    // the first bytes of the scratch as a section
+    // sections: the first bytes of the scratch, those of the operation's data
     pub has_room: bool,
     pub room: usize,
+    pub has_own: bool,
+    pub own: usize,
 }
 
 fn made(told: Told, tail: Tail, small: [u8; 16]) -> Answer {
@@ -96,6 +115,8 @@ fn made(told: Told, tail: Tail, small: [u8; 16]) -> Answer {
         small,
         has_room: false,
         room: 0,
+        has_own: false,
+        own: 0,
     }
 }
 
@@ -103,21 +124,30 @@ pub(crate) fn plain(told: Told) -> Answer {
     made(told, Tail::Nothing, [0; 16])
 }
 
-pub(crate) fn with_text(told: Told, n: usize) -> Answer {
-    made(told, Tail::Text(n), [0; 16])
+pub(crate) fn with_tail(told: Told, tail: Tail) -> Answer {
+    made(told, tail, [0; 16])
 }
 
 pub(crate) fn with_small(told: Told, small: [u8; 16], n: usize) -> Answer {
     made(told, Tail::Small(n), small)
 }
 
-pub(crate) fn with_room(told: Told, room: usize) -> Answer {
-    let tail = Tail::Nothing;
-    Answer {
-        told,
-        tail,
-        small: [0; 16],
-        has_room: true,
-        room,
+impl Answer {
+    pub(crate) fn with_room(mut self, n: usize) -> Answer {
+        self.has_room = true;
+        self.room = n;
+        self
+    }
+
+    pub(crate) fn with_own(mut self, n: usize) -> Answer {
+        self.has_own = true;
+        self.own = n;
+        self
+    }
+
+    pub(crate) fn as_finish(mut self) -> Answer {
+        let told = finish(self.told);
+        self.told = told;
+        self
     }
 }

@@ -14,13 +14,13 @@ use crate::out::spaced_bytes;
 use crate::out::value;
 use crate::out::within;
 use crate::told::Answer;
+use crate::told::Tail;
 use crate::told::Told;
 use crate::told::none;
 use crate::told::one;
 use crate::told::outside;
 use crate::told::plain;
-use crate::told::with_room;
-use crate::told::with_text;
+use crate::told::with_tail;
 use maskrom::CloseStepped;
 use maskrom::Control;
 use maskrom::MaskRomOperation;
@@ -133,7 +133,7 @@ fn stepped(upload: Upload, image: &[u8], out: &mut [u8]) -> Uploaded {
     let done = record.step(image, out);
     let step = done.step;
     let record = done.next;
-    let answer = with_room(step_told(step), out.len());
+    let answer = plain(step_told(step)).with_room(out.len());
     let upload = Upload {
         is_there: true,
         record,
@@ -231,7 +231,7 @@ fn whole_list(record: WholeUpload, image: &[u8], text: &mut [u8]) -> List {
 }
 
 fn list_answer(list: List) -> Answer {
-    with_text(one(0, list.count), list.at)
+    with_tail(one(0, list.count), Tail::Text(list.at))
 }
 
 // The list of the image in the scratch's first `n` bytes; its text takes the image's place.
@@ -429,10 +429,10 @@ pub(crate) fn cut_up(line: &[u8], name: Token, scratch: &mut [u8]) -> Answer {
     let check = number(line, area, 1);
     let count = number(line, check, 2047);
     let last = sizes(line, count);
+    let start = new_cut(area.as_u16(), check.value == 1, count);
     let given = data(line, last, IMAGE, scratch);
     if last.value == 0 || !is_end(line, given) {
         return plain(outside());
     }
-    let start = new_cut(area.as_u16(), check.value == 1, count);
     cut_of(line, count, start, given.as_usize(), scratch)
 }

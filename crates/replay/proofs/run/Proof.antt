@@ -7,12 +7,12 @@ use Rattle.replay.proofs.run.Statement.{statement}
 use Rattle.replay.proofs.run.Tie as tie
 
 abbrev Inv-loop : tie.InvT-loop
-Inv-loop block₀ line₀ out₀ scratch₀ image₀ printed₀ input₀ turns₀ block line out scratch image printed input turns =
+Inv-loop block₀ line₀ out₀ scratch₀ image₀ own₀ printed₀ input₀ turns₀ block line out scratch image own printed input turns =
     (length block ≡ length block₀) × (length line ≡ length line₀) × (length out ≡ length out₀)
-    × (length scratch ≡ length scratch₀) × (length image ≡ length image₀)
+    × (length scratch ≡ length scratch₀) × (length image ≡ length image₀) × (length own ≡ length own₀)
 
 abbrev μ-loop : tie.MeasureT-loop
-μ-loop block₀ line₀ out₀ scratch₀ image₀ printed₀ input₀ turns₀ block line out scratch image printed input turns =
+μ-loop block₀ line₀ out₀ scratch₀ image₀ own₀ printed₀ input₀ turns₀ block line out scratch image own printed input turns =
     turns
 
 pub run-spec : {M : Type 1} → statement M
@@ -21,4 +21,4 @@ run-spec =
     (tie.spec Inv-loop μ-loop (λ c κs. search needs) (λ c κs. search needs) (λ c κs. search needs) (λ c. search needs)
     (λ c κs. search needs) (λ c κs. search needs) (λ c. search needs) (λ c. search needs) (λ c. search needs)
     (λ c κs. search needs) (λ c. search needs) (λ c. search needs) (λ c. search needs) (λ c. search needs)
-    (λ c. search needs) (λ c. search needs))
+    (λ c. search needs) (λ c. search needs) (λ c. search needs))
