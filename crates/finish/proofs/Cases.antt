@@ -2,13 +2,11 @@
 -- Assumes nothing.
 use Prim.Native.Nat.{ℕ, _-_, _<_, _≤_}
 use mathlib.Core.Path.{_≡_, refl, ap, sym, _∙_}
-use mathlib.Core.Bool.{true, false}
-use mathlib.Core.List.{List, [], _∷_}
+use mathlib.Core.List.{List, []}
 use lib.ListN.{take}
 use borrow.Author.Tests.{lt-ltb, le-ltb, eq-eqb, ne-eqb}
 use Rattle.wire.specs.Told.{Told, given, refused, andThen}
-use Rattle.wire.specs.Rules.{pick, unless}
-use Rattle.codes.specs.declared.Status.{Status}
+use Rattle.wire.specs.Rules.{unless}
 use Rattle.codes.specs.declared.Status.the-variants.{SUCCESS, FAILED}
 use Rattle.block.specs.Signature.{noSignature, signatureIn}
 use Rattle.status.specs.StatusBytes.{readStatus}

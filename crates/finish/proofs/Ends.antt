@@ -15,7 +15,7 @@ use Rattle.codes.specs.declared.Status.{Status}
 use Rattle.codes.proofs.Reading.{known-refused}
 use Rattle.block.specs.Signature.{usbs, same}
 use Rattle.status.specs.Failure.{atFinish}
-use Rattle.status.specs.StatusBytes.{reportOf, readStatus}
+use Rattle.status.specs.StatusBytes.{reportOf}
 use Rattle.status.specs.declared.report.CommandStatus.{CommandStatus}
 use Rattle.status.proofs.Reading.{read-unsigned, read-signed}
 use Rattle.reply.specs.Media.{placesSet, onlyPlace, readStorage}

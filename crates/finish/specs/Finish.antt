@@ -5,7 +5,7 @@ use mathlib.Core.Bool.{Bool, true, false, not}
 use mathlib.Core.List.{List, [], _∷_}
 use lib.Dec.{eqb, ltb}
 use lib.ListN.{take}
-use Rattle.wire.specs.Told.{Told, given, refused, andThen}
+use Rattle.wire.specs.Told.{Told, given, andThen}
 use Rattle.wire.specs.Rules.{rule, unless}
 use Rattle.codes.specs.declared.Status.{Status}
 use Rattle.codes.specs.declared.Status.the-variants.{SUCCESS, FAILED}

@@ -1,6 +1,6 @@
 -- How many steps each operation takes from its start to its finish.
 -- Assumes nothing.
-use Prim.Native.Nat.{ℕ, _*_, _<_}
+use Prim.Native.Nat.{ℕ, _<_}
 use mathlib.Core.Path.{_≡_, refl}
 use native.Mathlib.Omega.{arith}
 use Rattle.codes.specs.declared.ResetOpcode.{ResetOpcode}
@@ -8,7 +8,7 @@ use Rattle.codes.specs.declared.StorageIndex.{StorageIndex}
 use Rattle.protocol.specs.Commands.{chipInfoCommand, flashIdCommand, flashInfoCommand, capabilityCommand, storageCommand, eraseLbaCommand, eraseForceCommand, resetCommand, switchCommand, readLbaCommand, writeLbaCommand}
 use Rattle.finish.specs.declared.Kind.the-variants as kind
 use Rattle.steps.specs.Record.{fresh}
-use Rattle.steps.proofs.Rounds.{leftAt, left, fresh-with, fresh-without}
+use Rattle.steps.proofs.Rounds.{leftAt, left, fresh-with}
 
 -- a reply comes in a step of its own
 module _ (tag : ℕ) where

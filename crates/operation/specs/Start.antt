@@ -2,7 +2,6 @@
 -- Assumes nothing.
 use Prim.Native.Nat.{ℕ}
 use mathlib.Core.Path.{_≡_}
-use mathlib.Core.List.{List}
 use Rattle.wire.specs.Told.{Told, given, refused}
 use Rattle.protocol.specs.declared.CommandBlock.{CommandBlock}
 use Rattle.reply.specs.Sectors.{sectorTold, sectorsIn}

@@ -3,7 +3,7 @@
 use Prim.Native.Nat.{ℕ, _<_, _≤_}
 use mathlib.Core.Path.{_≡_, refl, ap, sym, subst, _∙_}
 use mathlib.Core.Bool.{Bool, true, false}
-use mathlib.Core.List.{List, [], _∷_, _++_}
+use mathlib.Core.List.{List, [], _++_}
 use native.Mathlib.Omega.{arith}
 use borrow.Author.Tests.{lt-ltb, le-ltb, ltb-true, ltb-false}
 use lib.Dec.{ltb}
@@ -18,7 +18,7 @@ use Rattle.block.specs.declared.output.Written.{Written}
 use Rattle.block.specs.declared.output.Written.the-variants.{Bytes, TooShort}
 use Rattle.protocol.specs.CommandBytes.{commandBytes, writeCommand}
 use Rattle.protocol.specs.declared.CommandBlock.{CommandBlock}
-use Rattle.finish.specs.Reply.{Reply, blank, finishTold, besideReply, besideOf, FinishMeets}
+use Rattle.finish.specs.Reply.{Reply, blank, besideOf, FinishMeets}
 use Rattle.finish.specs.declared.Finished.{Finished}
 use Rattle.steps.specs.declared.Operation.{Operation}
 use Rattle.steps.specs.declared.Operation.the-variants as operation

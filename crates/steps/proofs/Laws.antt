@@ -1,19 +1,16 @@
 -- What holds of a step and of a giving at every record.
 -- Assumes nothing.
 use Prim.Native.Nat.{ℕ, _<_, _≤_}
-use mathlib.Core.Path.{_≡_, refl, ap, sym, subst, _∙_}
-use mathlib.Core.Bool.{Bool, true, false}
-use mathlib.Core.List.{List, [], _∷_, _++_}
+use mathlib.Core.Path.{_≡_, refl, ap, _∙_}
+use mathlib.Core.List.{List, []}
 use native.Mathlib.Omega.{arith}
 use borrow.Author.Tests.{lt-ltb, le-ltb, ltb-false}
-use lib.Dec.{ltb}
 use lib.ListN.{length, length-append, length-drop}
-use Rattle.wire.specs.Told.{Told, given, refused}
-use Rattle.wire.specs.Rules.{Rule, rule, pick}
+use Rattle.wire.specs.Told.{given, refused}
+use Rattle.wire.specs.Rules.{Rule}
 use Rattle.wire.specs.Bytes.{front}
 use Rattle.lent.specs.Outcome.{orRefuse}
 use Rattle.lent.proofs.Outcome.{either-way}
-use Rattle.protocol.specs.CommandBytes.{commandBytes}
 use Rattle.steps.specs.declared.Operation.{Operation}
 use Rattle.steps.specs.declared.Operation.the-variants as operation
 use Rattle.steps.specs.declared.IOBytes.{IOBytes}
@@ -21,10 +18,10 @@ use Rattle.steps.specs.declared.IOBytes.the-variants as io
 use Rattle.steps.specs.declared.Asked.{Asked}
 use Rattle.steps.specs.declared.Asked.the-variants as asked
 use Rattle.steps.specs.declared.UsbOperation.{UsbOperation}
-use Rattle.steps.specs.Record.{ioOf, transferLength, inbandLength, turned, commanded, commandOut}
-use Rattle.steps.specs.Step.{Asks, writesCommand, writesData, reads, Step, does, stays, commandStep, sectorStep, ioStep, statusStep, finishStep, stepOf, usbStep}
+use Rattle.steps.specs.Record.{ioOf, transferLength, inbandLength, turned}
+use Rattle.steps.specs.Step.{Asks, writesData, reads, Step, does, stays, commandStep, ioStep, statusStep, finishStep, stepOf, usbStep}
 use Rattle.steps.specs.Give.{Give, takes, keeps, nothingAsked, asksFor, owed, received, giveOf, usbGive}
-use Rattle.steps.proofs.Cases.{command-bytes-long, command-short, command-out, give-21, give-27, give-taken}
+use Rattle.steps.proofs.Cases.{command-bytes-long, give-taken}
 
 -- what each place answers
 module _ (op : UsbOperation) (lent room : ℕ) where

@@ -1,7 +1,8 @@
 -- `Lists` has laws on copied bytes, `Cases` one law for each way that a step or a giving can go, `Laws` what holds of every record, `Rounds` how many steps an
--- operation takes, `Unique` that answers that a contract allows are equal.
+-- operation takes, `Unique` that answers that a contract allows are equal, `Short` what a status of 4 bytes is read as.
 pub mod Lists
 pub mod Cases
 pub mod Laws
 pub mod Rounds
 pub mod Unique
+pub mod Short

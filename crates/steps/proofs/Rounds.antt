@@ -1,6 +1,6 @@
 -- How many steps an operation takes to its finish: 3, or 4 with data, whatever it is given.
 -- Assumes nothing.
-use Prim.Native.Nat.{ℕ, zero, suc, _+_, _<_, _≤_}
+use Prim.Native.Nat.{ℕ, suc, _+_, _<_, _≤_}
 use mathlib.Core.Path.{_≡_, refl, ap, ap₂, _∙_}
 use mathlib.Core.Bool.{Bool, true, false}
 use mathlib.Core.List.{List, [], _∷_}
@@ -21,7 +21,7 @@ use Rattle.steps.specs.Record.{fresh, ioOf, transferLength, afterCommand
 use Rattle.steps.specs.Step.{Step, ioStep, statusStep, stepOf, usbStep}
 use Rattle.steps.specs.Give.{usbGive}
 use Rattle.steps.proofs.Cases.{command-out}
-use Rattle.steps.proofs.Laws.{data-inband, data-read, data-write, Same, give-keeps}
+use Rattle.steps.proofs.Laws.{data-inband, data-read, data-write, give-keeps}
 
 -- the steps from there to the finish, with it: "3 or 4 for an unrefused operation"
 unfoldable pub leftAt : Operation → ℕ → ℕ

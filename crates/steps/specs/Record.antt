@@ -5,7 +5,6 @@ use mathlib.Core.List.{List, _++_}
 use lib.Dec.{eqb}
 use lib.ListN.{replicate, take}
 use Rattle.wire.specs.Rules.{pick}
-use Rattle.wire.specs.Bytes.{front}
 use Rattle.protocol.specs.CommandBytes.{commandBytes}
 use Rattle.protocol.specs.declared.CommandBlock.{CommandBlock}
 use Rattle.finish.specs.declared.Kind.{Kind}
@@ -70,7 +69,7 @@ turned op next asked = record {
   asked = asked;
 }
 
--- the command is out: the status will be read over its first 13 bytes
+-- the status will be read over these 13 bytes, and nothing is asked for
 abbrev pub withStatus : UsbOperation → List ℕ → UsbOperation
 withStatus op bytes = record {
   kind = op .kind;
@@ -81,6 +80,7 @@ withStatus op bytes = record {
   asked = asked.Nothing;
 }
 
+-- these are the in-band bytes, and nothing is asked for
 abbrev pub withInband : UsbOperation → List ℕ → UsbOperation
 withInband op bytes = record {
   kind = op .kind;
@@ -95,5 +95,6 @@ withInband op bytes = record {
 abbrev pub commandOut : UsbOperation → List ℕ
 commandOut op = commandBytes (op .command) ++ replicate 7 0
 
+-- the command is out: the status will be read over its first 13 bytes
 abbrev pub commanded : UsbOperation → UsbOperation
 commanded op = turned (withStatus op (take statusSize (commandBytes (op .command)))) (afterCommand (transferLength op)) asked.Nothing

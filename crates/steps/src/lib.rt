@@ -1,15 +1,11 @@
 // One USB operation, step by step: the command out, data if there is any, the status in, the finish; then it starts again.
 use block::output::Written;
 use bytes;
-use codes::ResetOpcode;
-use codes::StorageIndex;
 use finish::Beside;
 use finish::FinishAnswer;
 use finish::Kind;
 use finish::finish_of;
 use protocol::CommandBlock;
-use reply::size::SectorAnswer;
-use reply::size::sector_count;
 ghost use mathlib.Core.Path.{_≡_};
 ghost use mathlib.Core.List.{List, _++_};
 ghost use Prim.Native.Nat.{ℕ, min, _≤_};
@@ -176,38 +172,22 @@ impl UsbOperation {
         }
     }
 
-    fn with_status(self, command_bytes: [u8; 13]) -> UsbOperation
+    // The status is given.
+    fn with_status(mut self, command_bytes: [u8; 13]) -> UsbOperation
         ensures { λ r. ⌜ r ≡ withStatus self «command_bytes» ⌝ }
     {
-        let kind = self.kind;
-        let command = self.command;
-        let data = self.data;
+        self.command_bytes = command_bytes;
         let next = self.next;
-        UsbOperation {
-            kind,
-            command,
-            command_bytes,
-            data,
-            next,
-            asked: Asked::Nothing,
-        }
+        self.turned_to(next, Asked::Nothing)
     }
 
-    fn with_inband(self, data: [u8; 16]) -> UsbOperation
+    // A reply is given.
+    fn with_inband(mut self, data: [u8; 16]) -> UsbOperation
         ensures { λ r. ⌜ r ≡ withInband self «data» ⌝ }
     {
-        let kind = self.kind;
-        let command = self.command;
-        let command_bytes = self.command_bytes;
+        self.data = data;
         let next = self.next;
-        UsbOperation {
-            kind,
-            command,
-            command_bytes,
-            data,
-            next,
-            asked: Asked::Nothing,
-        }
+        self.turned_to(next, Asked::Nothing)
     }
 
     // An answer with nothing beside it.

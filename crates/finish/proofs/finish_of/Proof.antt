@@ -1,5 +1,5 @@
 -- `finish::finish_of` meets its contract: each refusal is the first broken rule, in the order of the definition. Assumes nothing.
-use mathlib.Core.Path.{_≡_, refl, ap, sym, subst, _∙_}
+use mathlib.Core.Path.{_≡_, ap, sym, subst, _∙_}
 use borrow.Author.Needs.{needs}
 use Rattle.wire.specs.Told.{Told, given, andThen}
 use Rattle.block.specs.Signature.{signatureIn}

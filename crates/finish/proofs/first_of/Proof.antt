@@ -1,6 +1,5 @@
 -- `finish::first_of` meets its contract: as many bytes are copied as `out` has, so nothing of it is left. Assumes nothing.
-use Prim.Native.Nat.{_≤_}
-use mathlib.Core.Path.{_≡_, refl, sym}
+use mathlib.Core.Path.{_≡_, sym}
 use native.Mathlib.Omega.{arith}
 use lib.ListN.{length, take}
 use lib.Seq.{length-take-le}

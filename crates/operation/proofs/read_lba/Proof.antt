@@ -1,5 +1,5 @@
 -- `operation::read_lba` meets its contract: the count or the refusal is passed on, and the command is for that many sectors, or none. Assumes nothing.
-use mathlib.Core.Path.{_≡_, refl, ap, _∙_}
+use mathlib.Core.Path.{refl, ap, _∙_}
 use borrow.Author.Needs.{needs}
 use Rattle.operation.specs.Start.{sectorsOr0}
 use Rattle.operation.proofs.read_lba.Statement.{statement}

@@ -1,5 +1,5 @@
 -- `steps::first_13` meets its contract: 13 bytes are copied, so nothing of the array is left. Assumes nothing.
-use mathlib.Core.Path.{_≡_, refl, sym}
+use mathlib.Core.Path.{_≡_, sym}
 use native.Mathlib.Omega.{arith}
 use lib.ListN.{length, take, replicate}
 use lib.Seq.{length-take-le}

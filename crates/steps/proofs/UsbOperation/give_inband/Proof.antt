@@ -1,6 +1,6 @@
 -- `steps::UsbOperation::give_inband` meets its contract: more than was asked is refused, the rest goes over the in-band bytes. Assumes nothing.
 use Prim.Native.Nat.{_<_, _≤_}
-use mathlib.Core.Path.{_≡_, refl, sym, _∙_}
+use mathlib.Core.Path.{_≡_, refl}
 use native.Mathlib.Omega.{arith}
 use lib.ListN.{length}
 use denote.Ref.{now}

@@ -1,12 +1,10 @@
 -- `steps::UsbOperation::give_sectors` meets its contract: 21, then 27, then the bytes stand at the front of the caller's data. Assumes nothing.
-use Prim.Native.Nat.{_<_, _≤_}
-use mathlib.Core.Path.{_≡_, refl, sym, _∙_}
+use mathlib.Core.Path.{refl}
 use native.Mathlib.Omega.{arith}
 use lib.ListN.{length}
 use denote.Ref.{now}
 use borrow.Author.Needs.{needs}
 use Rattle.steps.specs.declared.Asked.the-variants as asked
-use Rattle.steps.specs.Record.{transferLength}
 use Rattle.steps.specs.Give.{nothingAsked, asksFor, owed, received, givingTold}
 use Rattle.steps.proofs.Lists.{copied}
 use Rattle.steps.proofs.Cases.{give-meets, give-21, give-27, give-taken}

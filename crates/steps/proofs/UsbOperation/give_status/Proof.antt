@@ -1,6 +1,6 @@
 -- `steps::UsbOperation::give_status` meets its contract: more than 13 bytes are refused, the rest goes over the command's first 13. Assumes nothing.
-use Prim.Native.Nat.{_<_, _≤_}
-use mathlib.Core.Path.{_≡_, refl, sym, _∙_}
+use Prim.Native.Nat.{_≤_}
+use mathlib.Core.Path.{_≡_, refl}
 use native.Mathlib.Omega.{arith}
 use lib.ListN.{length}
 use denote.Ref.{now}

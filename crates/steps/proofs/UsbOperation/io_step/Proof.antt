@@ -1,5 +1,5 @@
 -- `steps::UsbOperation::io_step` meets its contract: by where the data is. Assumes nothing.
-use mathlib.Core.Path.{_≡_, refl, sym, _∙_}
+use mathlib.Core.Path.{refl, sym, _∙_}
 use borrow.Author.Needs.{needs}
 use Rattle.steps.specs.Step.{ioStep, stepTold, besideAt, besideAsks}
 use Rattle.steps.proofs.Cases.{plain-meets, sector-meets}
