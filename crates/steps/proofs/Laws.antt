@@ -6,11 +6,15 @@ use mathlib.Core.List.{List, []}
 use native.Mathlib.Omega.{arith}
 use borrow.Author.Tests.{lt-ltb, le-ltb, ltb-false}
 use lib.ListN.{length, length-append, length-drop}
-use Rattle.wire.specs.Told.{given, refused}
+use Rattle.wire.specs.Told.{given, refused, andThen}
 use Rattle.wire.specs.Rules.{Rule}
 use Rattle.wire.specs.Bytes.{front}
+use Rattle.codes.specs.declared.Status.the-variants.{FAILED}
 use Rattle.lent.specs.Outcome.{orRefuse}
 use Rattle.lent.proofs.Outcome.{either-way}
+use Rattle.status.specs.StatusBytes.{readStatus}
+use Rattle.status.specs.declared.report.CommandStatus.{CommandStatus}
+use Rattle.finish.proofs.Cases.{finish-15}
 use Rattle.steps.specs.declared.Operation.{Operation}
 use Rattle.steps.specs.declared.Operation.the-variants as operation
 use Rattle.steps.specs.declared.IOBytes.{IOBytes}
@@ -19,7 +23,7 @@ use Rattle.steps.specs.declared.Asked.{Asked}
 use Rattle.steps.specs.declared.Asked.the-variants as asked
 use Rattle.steps.specs.declared.UsbOperation.{UsbOperation}
 use Rattle.steps.specs.Record.{ioOf, transferLength, inbandLength, turned}
-use Rattle.steps.specs.Step.{Asks, writesData, reads, Step, does, stays, commandStep, ioStep, statusStep, finishStep, stepOf, usbStep}
+use Rattle.steps.specs.Step.{Asks, writesData, reads, Step, does, stays, commandStep, ioStep, statusStep, finishedTold, finishStep, stepOf, usbStep}
 use Rattle.steps.specs.Give.{Give, takes, keeps, nothingAsked, asksFor, owed, received, giveOf, usbGive}
 use Rattle.steps.proofs.Cases.{command-bytes-long, give-taken}
 
@@ -103,6 +107,14 @@ pub rearms : (op : UsbOperation) (lent room : ℕ) → op .next ≡ operation.Fi
     → (usbStep op lent room .sent ≡ []) × (usbStep op lent room .next ≡ turned op operation.CommandBlock asked.Nothing)
 unfolding finishStep
 rearms op lent room e = (ap (λ (s : Step). s .sent) (at-finish op lent room e), ap (λ (s : Step). s .next) (at-finish op lent room e))
+
+-- a failed status outranks a wrong tag, at every record
+pub failed-outranks : (op : UsbOperation) (lent room : ℕ) (s : CommandStatus) → op .next ≡ operation.Finish → readStatus (op .«command_bytes») ≡ given s
+    → s .status ≡ FAILED → usbStep op lent room .told ≡ refused 15 []
+unfolding finishStep finishedTold andThen
+failed-outranks op lent room s e read failed =
+    ap (λ (t : Step). t .told) (at-finish op lent room e)
+    ∙ ap finishedTold (finish-15 (op .kind) (op .command .tag) (transferLength op) (op .«command_bytes») (op .«data») s read failed)
 
 done-sends : (op : UsbOperation) (rules : List Rule) (done : Step) → length (done .sent) ≤ 31 → length (orRefuse (stays op) rules done .sent) ≤ 31
 done-sends op rules done h = either-way (λ s. length (s .sent) ≤ 31) (stays op) rules done (λ n values. omega arith) (λ met. h)
