@@ -1,18 +1,17 @@
 -- What a range answer tells, the ranges of document 01's example, and a flash that was taken.
 -- Assumes nothing.
-use Prim.Native.Nat.{ℕ, _+_, _*_, _/_, _%_, _≤_, _<_}
-use mathlib.Core.Path.{_≡_, refl, sym, _∙_}
+use Prim.Native.Nat.{ℕ, _+_, _*_, _/_, _%_, _≤_}
+use mathlib.Core.Path.{_≡_, refl}
 use mathlib.Core.Bool.{Bool, true, false, not}
 use mathlib.Core.List.{List, [], _∷_}
 use native.Mathlib.Omega.{arith}
-use lib.Dec.{leb, ltb, eqb}
-use borrow.Author.Tests.{leb-true, leb-false, le-leb, eqb-true, not-false, ltb-false}
-use Rattle.wire.specs.Told.{Told, given, refused}
+use lib.Dec.{ltb, eqb}
+use borrow.Author.Tests.{leb-true, le-leb, eqb-true, not-false, ltb-false}
+use Rattle.wire.specs.Told.{given, refused}
 use Rattle.wire.specs.Rules.{pick, unless}
 use Rattle.block.specs.Sector.{sectorSize}
 use Rattle.answer.specs.Flash.{mostSectors, flashRules, flashSectors, fitsIn, rangeIn}
 use Rattle.answer.specs.declared.range.FlashRange.{FlashRange}
-use Rattle.answer.specs.declared.range.RangeAnswer.{RangeAnswer}
 use Rattle.answer.specs.declared.range.RangeAnswer.the-variants.{Within, OutOfRange}
 
 -- P14: of 128 sectors, 128+0 fits, 128+1 doesn't

@@ -1,9 +1,7 @@
 -- The answers that the code makes tell what they should.
 -- Assumes nothing.
-use Prim.Native.Nat.{ℕ}
 use mathlib.Core.Path.{_≡_, refl, ap, sym, _∙_}
-use mathlib.Core.List.{List, [], _∷_}
-use Rattle.wire.specs.Told.{Told, given, refused}
+use Rattle.wire.specs.Told.{Told, given}
 use Rattle.block.specs.Signature.{noSignature, signatureIn}
 use Rattle.protocol.specs.CommandMeets.{commandErrorNumber, commandErrorValues}
 use Rattle.protocol.specs.declared.CommandBlockParseError.the-variants.{InvalidSignature, UnknownCommandCode, UnknownFlags, InvalidLength}

@@ -2,12 +2,11 @@
 -- Assumes nothing.
 use Prim.Native.Nat.{ℕ}
 use mathlib.Core.Path.{_≡_, refl, ap, ap₂, sym, _∙_}
-use mathlib.Core.List.{List, [], _∷_}
+use mathlib.Core.List.{List}
 use lib.Dec.{eqb}
-use lib.ListN.{getD, drop}
+use lib.ListN.{getD}
 use Rattle.wire.specs.Told.{Told, given, refused}
 use Rattle.wire.specs.Rules.{pick}
-use Rattle.codes.specs.Numbers.{codeNumber}
 use Rattle.codes.specs.Reading.{codeOf}
 use Rattle.codes.proofs.Back.{code-back}
 use Rattle.codes.specs.declared.CommandCode.{CommandCode}
@@ -15,6 +14,11 @@ use Rattle.codes.specs.declared.CommandCode.the-variants.{TestUnitReady}
 use Rattle.protocol.specs.CommandMeets.{commandErrorNumber, commandErrorValues}
 use Rattle.protocol.specs.declared.CommandBlockParseError.{CommandBlockParseError}
 use Rattle.protocol.specs.declared.CommandBlockParseError.the-variants.{InvalidSignature, UnknownCommandCode, UnknownFlags, InvalidLength}
+use Rattle.block.specs.Signature.{noSignature}
+use Rattle.answer.specs.Flash.{sizeTold}
+use Rattle.answer.specs.declared.range.FlashSectors.{FlashSectors}
+use Rattle.answer.specs.declared.range.FlashSectors.the-variants.{Whole}
+use Rattle.answer.specs.declared.range.FlashSectors.the-variants as size
 use Rattle.answer.specs.Told.{errorNumber, errorValues, resultTold, Answers}
 use Rattle.answer.specs.declared.error.MockTransportError.{MockTransportError}
 use Rattle.answer.specs.declared.error.MockTransportError.the-variants.{InvalidTransferLength, UnsupportedControl, InvalidReset, UnknownCommand, UnexpectedRead, UnexpectedWrite, CommandBlockError, OutOfRange, NoSlot, SlotFull, FlashSize, TooManySectors, StoreLength}
@@ -39,9 +43,8 @@ errorFrom n a b c =
     (pick (eqb n 56) (CommandBlockError (innerFrom a b)) (pick (eqb n 57) OutOfRange (pick (eqb n 58) NoSlot (pick (eqb n 59) SlotFull
     (pick (eqb n 60) (FlashSize a) (pick (eqb n 61) TooManySectors StoreLength)))))))))))
 
-unfoldable pub resultFrom : Told Unit → MockResult
-resultFrom (given done) = Done
-resultFrom (refused n values) = Refused (errorFrom n (getD values 0 0) (getD values 1 0) (getD values 2 0))
+abbrev errorIn : ℕ → List ℕ → MockTransportError
+errorIn number values = errorFrom number (getD values 0 0) (getD values 1 0) (getD values 2 0)
 
 inner-from : (error : CommandBlockParseError) (signature : List ℕ)
     → innerFrom (commandErrorNumber error) (getD (commandErrorValues error signature) 0 0) ≡ error
@@ -51,25 +54,45 @@ inner-from InvalidSignature signature = refl
 inner-from (UnknownFlags byte) signature = refl
 inner-from (UnknownCommandCode byte) signature = refl
 
+error-from : (error : MockTransportError) (signature : List ℕ) → errorIn (errorNumber error) (errorValues error signature) ≡ error
+unfolding errorFrom errorValues codeIn
+error-from (InvalidTransferLength expected actual) signature = refl
+error-from (UnsupportedControl type request value) signature = refl
+error-from (InvalidReset opcode) signature = refl
+error-from (UnknownCommand code) signature = ap (λ (t : Told CommandCode). UnknownCommand (codeIn t)) (code-back code)
+error-from UnexpectedRead signature = refl
+error-from UnexpectedWrite signature = refl
+error-from (CommandBlockError error) signature = ap CommandBlockError (inner-from error signature)
+error-from OutOfRange signature = refl
+error-from NoSlot signature = refl
+error-from SlotFull signature = refl
+error-from (FlashSize n) signature = refl
+error-from TooManySectors signature = refl
+error-from StoreLength signature = refl
+
+unfoldable pub resultFrom : Told Unit → MockResult
+resultFrom (given done) = Done
+resultFrom (refused number values) = Refused (errorIn number values)
+
 pub result-from : (result : MockResult) (signature : List ℕ) → resultFrom (resultTold result signature) ≡ result
-unfolding resultFrom errorFrom resultTold errorValues codeIn
+unfolding resultFrom resultTold
 result-from Done signature = refl
-result-from (Refused (InvalidTransferLength expected actual)) signature = refl
-result-from (Refused (UnsupportedControl type request value)) signature = refl
-result-from (Refused (InvalidReset opcode)) signature = refl
-result-from (Refused (UnknownCommand code)) signature = ap (λ (t : Told CommandCode). Refused (UnknownCommand (codeIn t))) (code-back code)
-result-from (Refused UnexpectedRead) signature = refl
-result-from (Refused UnexpectedWrite) signature = refl
-result-from (Refused (CommandBlockError error)) signature = ap (λ (e : CommandBlockParseError). Refused (CommandBlockError e)) (inner-from error signature)
-result-from (Refused OutOfRange) signature = refl
-result-from (Refused NoSlot) signature = refl
-result-from (Refused SlotFull) signature = refl
-result-from (Refused (FlashSize n)) signature = refl
-result-from (Refused TooManySectors) signature = refl
-result-from (Refused StoreLength) signature = refl
+result-from (Refused error) signature = ap Refused (error-from error signature)
 
 pub answers-unique : (a b : MockAnswer) (told : Told Unit) → Answers a told → Answers b told → a ≡ b
 answers-unique a b told m n =
     let results : a .result ≡ b .result =
     sym (result-from (a .result) (a .signature)) ∙ ap resultFrom (m .tells ∙ sym (n .tells)) ∙ result-from (b .result) (b .signature) in
     ap₂ (λ (r : MockResult) (s : List ℕ). record { result = r; signature = s }) results (m .signature ∙ sym (n .signature))
+
+unfoldable pub sizeFrom : Told ℕ → FlashSectors
+sizeFrom (given sectors) = Whole sectors
+sizeFrom (refused number values) = size.Refused (errorIn number values)
+
+pub size-from : (size : FlashSectors) → sizeFrom (sizeTold size) ≡ size
+unfolding sizeFrom sizeTold
+size-from (Whole sectors) = refl
+size-from (size.Refused error) = ap size.Refused (error-from error noSignature)
+
+pub size-unique : (a b : FlashSectors) (told : Told ℕ) → sizeTold a ≡ told → sizeTold b ≡ told → a ≡ b
+size-unique a b told m n = sym (size-from a) ∙ ap sizeFrom (m ∙ sym n) ∙ size-from b

@@ -4,12 +4,11 @@ use Prim.Native.Nat.{ℕ, _+_, _/_, _%_}
 use mathlib.Core.Bool.{Bool, not}
 use mathlib.Core.List.{List, [], _∷_}
 use lib.Dec.{eqb, leb, ltb}
-use Rattle.wire.specs.Told.{Told, given, refused}
+use Rattle.wire.specs.Told.{Told, given}
 use Rattle.wire.specs.Rules.{Rule, rule, pick, unless}
 use Rattle.block.specs.Sector.{sectorSize}
 use Rattle.answer.specs.Told.{errorTold}
 use Rattle.block.specs.Signature.{noSignature}
-use Rattle.answer.specs.declared.range.FlashRange.{FlashRange}
 use Rattle.answer.specs.declared.range.FlashSectors.{FlashSectors}
 use Rattle.answer.specs.declared.range.FlashSectors.the-variants.{Whole, Refused}
 use Rattle.answer.specs.declared.range.RangeAnswer.{RangeAnswer}

@@ -1,13 +1,13 @@
 -- The three outcomes of an append, at the place that its number has.
 -- Assumes nothing.
 use Prim.Native.Nat.{ℕ, _+_, _≤_, _<_}
-use mathlib.Core.Path.{_≡_, refl}
+use mathlib.Core.Path.{_≡_}
 use mathlib.Core.List.{List, []}
 use lib.ListN.{length}
 use borrow.Author.Tests.{le-leb, lt-leb, lt-ltb, le-ltb}
 use Rattle.lent.specs.Outcome.{orRefuse}
 use Rattle.areas.specs.Slots.{slotCount, slotSize, place}
-use Rattle.areas.specs.Append.{Appending, appendRules, refusedAppend, appendedAt, appendStep}
+use Rattle.areas.specs.Append.{appendRules, refusedAppend, appendedAt, appendStep}
 use Rattle.areas.specs.declared.Areas.{Areas}
 use Rattle.areas.specs.declared.Place.{Place}
 

@@ -1,21 +1,20 @@
 -- Areas by their numbers: a write appends to its own area and leaves every other; two areas share no byte; an area's bytes are what its writes appended.
 -- Assumes nothing.
-use Prim.Native.Nat.{ℕ, zero, suc, _+_, _*_, _≤_, _<_}
+use Prim.Native.Nat.{ℕ, _+_, _*_, _≤_, _<_}
 use mathlib.Core.Path.{_≡_, refl, ap, sym, _∙_}
-use mathlib.Core.Logic.{_⊎_, inl, inr}
+use mathlib.Core.Logic.{_⊎_, inl, inr, ⊎-elim}
 use mathlib.Core.Bool.{Bool, true, false}
 use mathlib.Core.List.{List, [], _∷_, _++_}
-use mathlib.Core.Option.{Option, none, some}
+use mathlib.Core.Option.{none, some}
 use native.Mathlib.Omega.{arith}
 use lib.Dec.{eqb, ltb}
-use lib.ListN.{length, getD, set, take, replicate, length-set, getD-replicate, List·getD-eq-default}
+use lib.ListN.{length, getD, replicate, length-set, getD-replicate, List·getD-eq-default}
 use lib.Seq.{getD-set-same, getD-set-other}
-use borrow.Author.Tests.{ltb-true, ltb-false, lt-ltb, le-ltb, eqb-true, eqb-false, eq-eqb, ne-eqb, leb-false, not-true}
-use Rattle.wire.specs.Told.{Told, given, refused}
+use borrow.Author.Tests.{ltb-true, ltb-false, lt-ltb, eqb-true, eqb-false, eq-eqb, ne-eqb, leb-false, not-true}
+use Rattle.wire.specs.Told.{refused}
 use Rattle.wire.specs.Rules.{pick}
 use Rattle.wire.specs.Bytes.{field}
 use Rattle.lent.specs.Over.{over}
-use Rattle.lent.specs.Outcome.{orRefuse}
 use Rattle.lent.proofs.Over.{length-over, field-before, field-behind, field-grows}
 use Rattle.lent.proofs.Outcome.{Met, by-test, on-test, either-way}
 use Rattle.areas.specs.Slots.{slotCount, slotSize, freeSlot, freshAreas, passes, firstAt, heldAt, isHeld, usedAt, place, areaFound}
@@ -24,9 +23,7 @@ use Rattle.areas.specs.Contents.{bytesAt, contents, Sound, soFar, gains,
 use Rattle.areas.specs.declared.Area.{Area}
 use Rattle.areas.specs.declared.Areas.{Areas}
 use Rattle.areas.specs.declared.Place.{Place}
-use Rattle.areas.specs.declared.Wanted.{Wanted}
 use Rattle.areas.specs.declared.Wanted.the-variants.{Free, Number}
-use Rattle.areas.specs.declared.AreaFound.{AreaFound}
 use Rattle.areas.specs.declared.AreaFound.the-variants.{NotHeld, Held}
 use Rattle.areas.proofs.Search.{found-passes, first-set, first-kept}
 use Rattle.areas.proofs.Room.{slot-end, slot-inside}
@@ -216,6 +213,17 @@ append-grows number bytes areas store sound =
     (λ n values. record { long = refl; sound = sound; own = refl; others = λ b other. refl })
     (grows-at number bytes areas store sound)
 
+-- a refused write changes nothing
+pub append-refused : (number : ℕ) (bytes : List ℕ) (areas : Areas) (store : List ℕ) (n : ℕ) (values : List ℕ)
+    → appendStep areas number bytes store .told ≡ refused n values
+    → (appendStep areas number bytes store .next ≡ areas) × (appendStep areas number bytes store .store ≡ store)
+unfolding appendStep appendedAt
+append-refused number bytes areas store n values =
+    let p = place number (areas .slots) in
+    either-way (λ (o : Appending). o .told ≡ refused n values → (o .next ≡ areas) × (o .store ≡ store)) (refusedAppend areas store)
+    (appendRules p (length bytes) (length store)) (appendedAt areas p number bytes store) (λ m vs e. (refl, refl))
+    (λ met e. let z : _≡_ {A = ℕ} 0 1 = cc in absurd (omega arith))
+
 -- at first no number is held
 pub fresh-sound : (store : List ℕ) → Sound freshAreas store
 unfolding freshAreas
@@ -281,3 +289,31 @@ areas-apart a b areas store sound other s m t n ea eb =
     (λ h. on-test (ltb j i)
     (λ k. inr (omega (arith, slot-end j i size (ltb-true j i k))))
     (λ k. absurd (apart-slots areas store sound a b other (x .held) (y .held) (omega (arith, ltb-false i j h, ltb-false j i k)))))
+
+outside-slot : (number : ℕ) (bytes : List ℕ) (areas : Areas) (store : List ℕ) (a n : ℕ)
+    → (a + n ≤ place number (areas .slots) .slot * slotSize (length store))
+    ⊎ (place number (areas .slots) .slot * slotSize (length store) + slotSize (length store) ≤ a)
+    → Met (appendRules (place number (areas .slots)) (length bytes) (length store))
+    → field a n (appendedAt areas (place number (areas .slots)) number bytes store .store) ≡ field a n store
+unfolding appendedAt appendRules
+outside-slot number bytes areas store a n apart met =
+    let p = place number (areas .slots) in
+    let start = p .slot * slotSize (length store) + p .used in
+    let slot = leb-false slotCount (p .slot) (met .0) in
+    let room = ltb-false (slotSize (length store)) (p .used + length bytes) (met .1 .0) in
+    let inside : start + length bytes ≤ length store = omega (arith, slot-inside (p .slot) (length store) slot) in
+    ⊎-elim
+    (λ h. field-before start bytes store inside a n (omega arith))
+    (λ h. field-behind start bytes store inside a n (omega arith))
+    apart
+
+-- whatever the record holds, a write touches the bytes of its place's slot only
+pub slot-only : (number : ℕ) (bytes : List ℕ) (areas : Areas) (store : List ℕ) (a n : ℕ)
+    → (a + n ≤ place number (areas .slots) .slot * slotSize (length store))
+    ⊎ (place number (areas .slots) .slot * slotSize (length store) + slotSize (length store) ≤ a)
+    → field a n (appendStep areas number bytes store .store) ≡ field a n store
+unfolding appendStep
+slot-only number bytes areas store a n apart =
+    let p = place number (areas .slots) in
+    either-way (λ (o : Appending). field a n (o .store) ≡ field a n store) (refusedAppend areas store) (appendRules p (length bytes) (length store))
+    (appendedAt areas p number bytes store) (λ m values. refl) (outside-slot number bytes areas store a n apart)

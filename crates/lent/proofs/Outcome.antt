@@ -1,7 +1,8 @@
 -- What holds of every refusal and of the outcome holds of both together; and what is told is what the rules tell.
 -- Assumes nothing.
 use Prim.Native.Nat.{ℕ}
-use mathlib.Core.Path.{_≡_, refl}
+use mathlib.Core.Path.{_≡_, refl, sym, _∙_}
+use native.Mathlib.Omega.{arith}
 use mathlib.Core.Bool.{Bool, true, false}
 use mathlib.Core.List.{List, [], _∷_}
 use Rattle.wire.specs.Told.{Told, given, refused}
@@ -39,3 +40,16 @@ tells-as told refuse h (r ∷ rules) done =
     by-test (λ t. told t ≡ pick (r .broken) (refused (r .number) (r .values)) (unless rules (told done))) (r .broken)
     (λ e. rw e (h (r .number) (r .values)))
     (λ e. rw e (tells-as told refuse h rules done))
+
+-- what is given behind rules met them all
+pub passed : {A B : Type 0} (told : A → Told B) (refuse : ℕ → List ℕ → A)
+    → ((n : ℕ) (values : List ℕ) → told (refuse n values) ≡ refused n values)
+    → (rules : List Rule) (done : A) (b : B) → told (orRefuse refuse rules done) ≡ given b → Met rules × (orRefuse refuse rules done ≡ done)
+unfolding orRefuse
+passed told refuse h [] done b e = (tt, refl)
+passed told refuse h (r ∷ rules) done b e =
+    on-test (r .broken)
+    (λ t. let z : told (refuse (r .number) (r .values)) ≡ given b = rw t at e in
+    let clash : refused (r .number) (r .values) ≡ given b = sym (h (r .number) (r .values)) ∙ z in
+    let n : _≡_ {A = ℕ} 0 1 = cc in absurd (omega arith))
+    (λ t. let rest = passed told refuse h rules done b (rw t at e) in ((t, rest .0), rw t (rest .1)))

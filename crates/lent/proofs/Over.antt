@@ -1,12 +1,12 @@
 -- A part that lies inside is read back as what was put there, and every part beside it as it was.
 -- Assumes nothing.
-use Prim.Native.Nat.{ℕ, zero, suc, _+_, _-_, _≤_, _<_}
+use Prim.Native.Nat.{ℕ, zero, suc, _+_, _-_, _≤_}
 use mathlib.Core.Path.{_≡_, refl, ap, sym, _∙_}
-use mathlib.Core.List.{List, [], _∷_, _++_, append-assoc}
+use mathlib.Core.List.{List, [], _∷_, _++_}
 use native.Mathlib.Nat.{add-zero}
 use native.Mathlib.Omega.{arith}
 use lib.ListN.{length, take, drop, length-append, length-take, length-drop, take-append-drop}
-use lib.Seq.{take-append-le, drop-append-le, take-at, drop-at, drop-drop, take-take, take-add, drop-append-add, length-take-le}
+use lib.Seq.{take-at, drop-at, drop-drop, take-take, take-add, length-take-le}
 use Rattle.wire.specs.Bytes.{field}
 use Rattle.lent.specs.Over.{over}
 

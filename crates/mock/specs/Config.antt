@@ -1,10 +1,9 @@
 -- What a stand-in device says of itself, and the Rust's default.
 -- Assumes nothing.
-use Prim.Native.Nat.{ℕ, _*_}
+use Prim.Native.Nat.{ℕ}
 use mathlib.Core.List.{List, [], _∷_, _++_}
 use lib.ListN.{replicate}
 use Rattle.wire.specs.Bytes.{lowFirst}
-use Rattle.block.specs.Sector.{sectorSize}
 use Rattle.mock.specs.declared.config.MockDeviceConfig.{MockDeviceConfig}
 
 -- `rockusb-mock-v1!`

@@ -11,7 +11,7 @@ use Rattle.wire.specs.Rules.{Rule, rule, pick}
 use Rattle.block.specs.Signature.{noSignature}
 use Rattle.lent.specs.Outcome.{orRefuse}
 use Rattle.areas.specs.Slots.{freshAreas, areaFound}
-use Rattle.areas.specs.Append.{Appending, appendStep}
+use Rattle.areas.specs.Append.{appendStep}
 use Rattle.areas.specs.declared.Areas.{Areas}
 use Rattle.areas.specs.declared.AreaFound.{AreaFound}
 use Rattle.areas.specs.declared.AreaStep.{AreaStep}

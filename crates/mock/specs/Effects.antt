@@ -8,7 +8,6 @@ use Rattle.codes.specs.declared.Status.the-variants.{SUCCESS}
 use Rattle.block.specs.Sector.{sectorSize}
 use Rattle.status.specs.StatusBytes.{statusBytes}
 use Rattle.lent.specs.Over.{over}
-use Rattle.answer.specs.declared.range.FlashRange.{FlashRange}
 use Rattle.transaction.specs.declared.outcome.Effect.{Effect}
 use Rattle.transaction.specs.declared.outcome.Effect.the-variants.{Nothing, Fill, Store, Supply, Reply}
 use Rattle.transaction.specs.declared.outcome.ReplyKind.{ReplyKind}

@@ -13,7 +13,6 @@ use Rattle.answer.specs.declared.error.MockResult.{MockResult}
 use Rattle.answer.specs.declared.error.MockResult.the-variants as result
 use Rattle.answer.specs.declared.range.FlashSectors.{FlashSectors}
 use Rattle.answer.specs.declared.range.FlashSectors.the-variants.{Whole, Refused}
-use Rattle.transaction.specs.Turn.{Turn}
 use Rattle.transaction.specs.Table.{writeTurn, readTurn}
 use Rattle.transaction.specs.declared.session.Session.{Session}
 use Rattle.mock.specs.Effects.{flashAfter, bufferAfter}

@@ -1,8 +1,8 @@
 // The device's record, handed in and back by value; its flash and its area store are lent.
 use super::config::MockDeviceConfig;
+use super::sizes::size_answer;
 use super::steps::SessionStep;
 use super::steps::read_step;
-use super::steps::size_answer;
 use super::steps::write_step;
 use answer::error::MockAnswer;
 use answer::error::MockResult;

@@ -2,4 +2,5 @@
 mod apply;
 pub mod config;
 pub mod device;
+mod sizes;
 pub mod steps;

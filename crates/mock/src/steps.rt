@@ -2,36 +2,19 @@
 use super::apply::apply_to_buffer;
 use super::apply::apply_to_flash;
 use super::config::MockDeviceConfig;
+use super::sizes::size_answer;
 use answer::error::MockAnswer;
-use answer::error::MockResult;
 use answer::range::FlashSectors;
 use answer::range::flash_sectors;
 use transaction::outcome::Outcome;
 use transaction::reading::read_outcome;
 use transaction::session::Session;
 use transaction::writing::write_outcome;
-ghost use mathlib.Core.Path.{_≡_};
-ghost use Rattle.mock.specs.Steps.{sizeAnswer, StepMeets, writeStep, readStep};
+ghost use Rattle.mock.specs.Steps.{StepMeets, writeStep, readStep};
 
 pub struct SessionStep {
     pub answer: MockAnswer,
     pub session: Session,
-}
-
-// What the device answers to a flash's length: done, or 60 or 61.
-pub fn size_answer(size: FlashSectors) -> MockAnswer
-    ensures { λ r. ⌜ r ≡ sizeAnswer size ⌝ }
-{
-    match size {
-        FlashSectors::Whole(_) => MockAnswer {
-            result: MockResult::Done,
-            signature: [0, 0, 0, 0],
-        },
-        FlashSectors::Refused(error) => MockAnswer {
-            result: MockResult::Refused(error),
-            signature: [0, 0, 0, 0],
-        },
-    }
 }
 
 pub fn write_step(session: Session, flash: &mut [u8], data: &[u8]) -> SessionStep

@@ -1,3 +1,7 @@
--- `Meets` says when an outcome comes to a turn, `Sane` what holds of every turn of the table.
+-- `Meets` says when an outcome comes to a turn, `Sane` and `Own` what holds of every turn of the table, `Accepted` what a turn was that was not refused;
+-- `Unique`: outcomes of one turn are equal.
 pub mod Meets
 pub mod Sane
+pub mod Own
+pub mod Accepted
+pub mod Unique

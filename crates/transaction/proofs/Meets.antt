@@ -2,8 +2,8 @@
 -- Assumes nothing.
 use Prim.Native.Nat.{ℕ}
 use mathlib.Core.Path.{_≡_, refl, sym, _∙_}
-use mathlib.Core.List.{List, [], _∷_}
-use Rattle.wire.specs.Told.{Told, given, refused}
+use mathlib.Core.List.{List}
+use Rattle.wire.specs.Told.{Told, refused}
 use Rattle.block.specs.Signature.{noSignature, signatureIn}
 use Rattle.protocol.specs.CommandMeets.{CommandMeets, commandTold, commandErrorNumber, commandErrorValues}
 use Rattle.protocol.specs.declared.CommandBlock.{CommandBlock}
@@ -11,7 +11,7 @@ use Rattle.protocol.specs.declared.CommandBlockParseError.{CommandBlockParseErr
 use Rattle.protocol.specs.declared.CommandParse.{CommandParse}
 use Rattle.protocol.specs.declared.CommandAnswer.the-variants.{Refused}
 use Rattle.answer.proofs.Telling.{answers-error, answers-done}
-use Rattle.answer.specs.Told.{errorTold, errorValues, resultTold, innerSignature, signatureBeside, Answers}
+use Rattle.answer.specs.Told.{errorTold, errorValues, resultTold, innerSignature, signatureBeside}
 use Rattle.answer.specs.declared.error.MockTransportError.{MockTransportError}
 use Rattle.transaction.specs.Turn.{Turn, refuses, done, OutcomeMeets, refusedWith, settled, blockResult, blockRefused}
 use Rattle.transaction.specs.Table.{startTurn}

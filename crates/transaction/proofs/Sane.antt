@@ -1,15 +1,15 @@
 -- Every turn of the table: its effect fits the flash and the bytes lent, and a refusal has none and ends the transaction.
 -- Assumes nothing.
-use Prim.Native.Nat.{ℕ, _+_, _*_, _≤_}
-use mathlib.Core.Path.{_≡_, refl, sym, subst}
-use mathlib.Core.Bool.{Bool, true, false, not}
+use Prim.Native.Nat.{ℕ, _*_}
+use mathlib.Core.Path.{_≡_, refl}
+use mathlib.Core.Bool.{true, not}
 use mathlib.Core.List.{List, [], _∷_}
 use native.Mathlib.Omega.{arith}
 use lib.Dec.{eqb}
 use lib.ListN.{length}
 use borrow.Author.Tests.{eqb-true, not-false}
 use Rattle.wire.specs.Told.{Told, given, refused}
-use Rattle.wire.specs.Rules.{pick, rule}
+use Rattle.wire.specs.Rules.{rule}
 use Rattle.codes.specs.Numbers.{codeNumber}
 use Rattle.codes.specs.Reading.{resetOf}
 use Rattle.codes.specs.declared.ResetOpcode.{ResetOpcode}
@@ -19,8 +19,7 @@ use Rattle.codes.specs.declared.CommandCode.the-variants.{ReadFlashId, ReadFlas
 use Rattle.block.specs.Sector.{sectorSize}
 use Rattle.protocol.specs.CommandBytes.{readCommand}
 use Rattle.protocol.specs.declared.CommandBlock.{CommandBlock}
-use Rattle.lent.specs.Outcome.{orRefuse}
-use Rattle.lent.proofs.Outcome.{Met, by-test, either-way}
+use Rattle.lent.proofs.Outcome.{by-test, either-way}
 use Rattle.answer.specs.Flash.{fitsIn}
 use Rattle.answer.proofs.Fitting.{fits-sectors}
 use Rattle.transaction.specs.Turn.{Turn, session, refuses, done, hasCode, isErase, isIn, isOut, movedBy, replySize, EffectFits}
@@ -31,7 +30,7 @@ use Rattle.transaction.specs.declared.session.LastReset.{LastReset}
 use Rattle.transaction.specs.declared.session.LastReset.the-variants as reset
 use Rattle.transaction.specs.declared.session.Session.{Session}
 use Rattle.transaction.specs.declared.outcome.Effect.{Effect}
-use Rattle.transaction.specs.declared.outcome.Effect.the-variants.{Nothing, Fill, Store, Supply, Reply}
+use Rattle.transaction.specs.declared.outcome.Effect.the-variants.{Nothing, Fill, Reply}
 use Rattle.transaction.specs.declared.outcome.ReplyKind.{ReplyKind}
 use Rattle.transaction.specs.declared.outcome.ReplyKind.the-variants as reply
 

@@ -1,7 +1,7 @@
 -- The transaction table of document 01. Each row is a session's transaction and a bulk call.
 -- Assumes nothing.
 use Prim.Native.Nat.{ℕ, _*_}
-use mathlib.Core.Bool.{Bool, not}
+use mathlib.Core.Bool.{not}
 use mathlib.Core.List.{List, [], _∷_}
 use lib.Dec.{eqb}
 use lib.ListN.{length}
@@ -25,7 +25,6 @@ use Rattle.transaction.specs.declared.session.CommandState.the-variants.
 use Rattle.transaction.specs.declared.session.LastReset.{LastReset}
 use Rattle.transaction.specs.declared.session.LastReset.the-variants as reset
 use Rattle.transaction.specs.declared.session.Session.{Session}
-use Rattle.transaction.specs.declared.outcome.Effect.{Effect}
 use Rattle.transaction.specs.declared.outcome.Effect.the-variants.{Nothing, Fill, Reply}
 use Rattle.transaction.specs.declared.outcome.ReplyKind.{ReplyKind}
 use Rattle.transaction.specs.declared.outcome.ReplyKind.the-variants as reply

@@ -2,5 +2,6 @@
 // It sees no byte of the flash: what an effect does to lent bytes is for the device to apply.
 pub mod outcome;
 pub mod reading;
+mod rows;
 pub mod session;
 pub mod writing;

@@ -1,10 +1,10 @@
 // A bulk write: a command, or the data that one awaits.
 use super::outcome::Effect;
 use super::outcome::Outcome;
-use super::outcome::has_code;
-use super::outcome::refuse;
-use super::outcome::sector_io;
-use super::outcome::settle;
+use super::rows::has_code;
+use super::rows::refuse;
+use super::rows::sector_io;
+use super::rows::settle;
 use super::session::CommandState;
 use super::session::LastReset;
 use super::session::Session;

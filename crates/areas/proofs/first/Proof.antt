@@ -1,11 +1,9 @@
 -- What the search finds among the slots that are left is what it finds among all; the measure is how many are left.
 -- Assumes nothing.
-use Prim.Native.Nat.{ℕ, zero, suc, _+_, _-_, _≤_, _<_}
-use mathlib.Core.Path.{_≡_, refl, ap, sym, _∙_}
-use native.Mathlib.Numerals.{add-one}
+use Prim.Native.Nat.{_+_, _-_, _≤_}
+use mathlib.Core.Path.{_≡_, sym, _∙_}
 use native.Mathlib.Omega.{arith}
 use lib.ListN.{length, drop, drop-of-length-le}
-use lib.Seq.{drop-cons}
 use borrow.Author.Needs.{needs}
 use Rattle.areas.specs.Slots.{passes, firstAt, freeSlot}
 use Rattle.areas.proofs.Search.{first-here, first-past}

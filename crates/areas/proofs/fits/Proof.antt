@@ -1,13 +1,9 @@
 -- Each arm is the case of `passes` that the match tells.
 -- Assumes nothing.
-use mathlib.Core.Path.{_≡_, refl, ap, sym, _∙_}
-use mathlib.Core.Bool.{Bool, false}
-use lib.Dec.{eqb}
+use mathlib.Core.Path.{refl}
 use borrow.Author.Needs.{needs}
 use borrow.Author.Tests.{not-true, not-false}
-use Rattle.wire.specs.Rules.{pick}
 use Rattle.areas.specs.Slots.{passes}
-use Rattle.areas.specs.declared.Wanted.{Wanted}
 use Rattle.areas.proofs.fits.Statement.{statement}
 use Rattle.areas.proofs.fits.Tie as tie
 

@@ -1,7 +1,6 @@
 -- The sum of both counts is at most the size exactly where the second is at most what the first leaves.
 -- Assumes nothing.
 use Prim.Native.Nat.{_+_}
-use mathlib.Core.Path.{refl}
 use native.Mathlib.Omega.{arith}
 use borrow.Author.Tests.{lt-leb, le-leb}
 use Rattle.areas.proofs.has_room.Statement.{statement}

@@ -1,7 +1,6 @@
 -- The test is the rule's, the sum being one of a `u32` and a `u16`.
 -- Assumes nothing.
 use Prim.Native.Nat.{_+_}
-use mathlib.Core.Path.{refl}
 use borrow.Author.Needs.{needs}
 use borrow.Author.Tests.{lt-leb, le-leb}
 use Rattle.answer.specs.Flash.{fitsIn, rangeIn}

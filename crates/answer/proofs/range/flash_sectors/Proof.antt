@@ -1,7 +1,6 @@
 -- The two tests stand in the order of the two rules.
 -- Assumes nothing.
 use Prim.Native.Nat.{_/_, _%_}
-use mathlib.Core.Path.{refl}
 use borrow.Author.Needs.{needs}
 use borrow.Author.Tests.{eq-eqb, ne-eqb, lt-ltb, le-ltb}
 use Rattle.wire.specs.Rules.{unless}

@@ -1,15 +1,15 @@
 -- The place's slot lies inside the store and the new bytes inside the slot, so the copy is the one part that changes.
 -- Assumes nothing.
 use Prim.Native.Nat.{_+_, _-_, _*_, _≤_}
-use mathlib.Core.Path.{_≡_, refl, sym, _∙_}
+use mathlib.Core.Path.{refl, sym, _∙_}
 use native.Mathlib.Omega.{arith}
 use denote.Ref.{now}
 use lib.ListN.{length, length-take, length-drop}
 use borrow.Author.Needs.{needs}
 use borrow.Author.Tests.{leb-true, leb-false, not-true, not-false}
 use Rattle.lent.proofs.Copied.{copied}
-use Rattle.areas.specs.Slots.{slotCount, slotSize}
-use Rattle.areas.specs.Append.{AppendMeets, areaTold, appendedAt}
+use Rattle.areas.specs.Slots.{slotSize}
+use Rattle.areas.specs.Append.{areaTold, appendedAt}
 use Rattle.areas.proofs.Room.{slot-inside}
 use Rattle.areas.proofs.Cases.{no-slot, slot-full, appended}
 use Rattle.areas.proofs.Areas.append.Statement.{statement}

@@ -1,6 +1,5 @@
 -- The slot that holds the number, and where it starts.
 -- Assumes nothing.
-use mathlib.Core.Path.{refl}
 use Rattle.areas.proofs.Room.{slot-inside}
 use native.Mathlib.Omega.{arith}
 use borrow.Author.Needs.{needs}

@@ -2,7 +2,6 @@
 -- Assumes nothing.
 use mathlib.Core.Path.{refl}
 use native.Mathlib.Omega.{arith}
-use borrow.Author.Needs.{needs}
 use Rattle.areas.specs.Append.{heldBy}
 use Rattle.areas.proofs.Areas.hold.Statement.{statement}
 use Rattle.areas.proofs.Areas.hold.Tie as tie

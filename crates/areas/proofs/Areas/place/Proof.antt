@@ -1,6 +1,5 @@
 -- The slot that holds the number where there is one, else the first that is free.
 -- Assumes nothing.
-use mathlib.Core.Path.{refl}
 use borrow.Author.Needs.{needs}
 use borrow.Author.Tests.{lt-ltb, le-ltb}
 use Rattle.areas.specs.Slots.{place, heldAt, slotCount}

@@ -1,7 +1,7 @@
 -- Each arm is the case of the definition; an effect that fits lies in the flash and has the size of the buffer.
 -- Assumes nothing.
-use Prim.Native.Nat.{ℕ, _/_}
-use mathlib.Core.Path.{_≡_, refl, ap, sym, _∙_, subst}
+use Prim.Native.Nat.{_/_}
+use mathlib.Core.Path.{ap, sym, _∙_, subst}
 use native.Mathlib.Omega.{arith}
 use denote.Ref.{now}
 use lib.ListN.{length}
@@ -9,7 +9,7 @@ use borrow.Author.Needs.{needs}
 use Rattle.block.specs.Sector.{sectorSize}
 use Rattle.transaction.specs.Turn.{EffectFits}
 use Rattle.transaction.specs.declared.outcome.Effect.{Effect}
-use Rattle.transaction.specs.declared.outcome.Effect.the-variants.{Supply, Reply}
+use Rattle.transaction.specs.declared.outcome.Effect.the-variants.{Supply}
 use Rattle.mock.specs.Effects.{bufferAfter}
 use Rattle.mock.proofs.apply.apply_to_buffer.Statement.{statement}
 use Rattle.mock.proofs.apply.apply_to_buffer.Tie as tie

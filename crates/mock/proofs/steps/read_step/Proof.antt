@@ -1,7 +1,7 @@
 -- 60 and 61 first, keeping everything; then the outcome that the table has, whose effect fits the flash, is applied.
 -- Assumes nothing.
 use Prim.Native.Nat.{ℕ, _/_}
-use mathlib.Core.Path.{_≡_, refl, ap, sym, _∙_}
+use mathlib.Core.Path.{refl, ap, _∙_}
 use native.Mathlib.Omega.{arith}
 use denote.Ref.{now}
 use lib.ListN.{length}
@@ -9,12 +9,11 @@ use borrow.Author.Needs.{needs}
 use Rattle.wire.specs.Told.{Told}
 use Rattle.block.specs.Sector.{sectorSize}
 use Rattle.transaction.specs.Turn.{EffectFits}
-use Rattle.transaction.specs.Table.{readTurn}
 use Rattle.transaction.specs.declared.outcome.Effect.{Effect}
 use Rattle.transaction.proofs.Sane.{read-sane}
 use Rattle.mock.specs.Effects.{bufferAfter}
 use Rattle.mock.specs.Steps.{readStep, readStepOf}
-use Rattle.mock.proofs.Sizes.{whole, kept, taken}
+use Rattle.mock.proofs.Lengths.{whole, kept, taken}
 use Rattle.mock.proofs.steps.read_step.Statement.{statement}
 use Rattle.mock.proofs.steps.read_step.Tie as tie
 

@@ -1,6 +1,5 @@
 -- Each arm gives the size that the definition has for its reply.
 -- Assumes nothing.
-use mathlib.Core.Path.{refl}
 use borrow.Author.Needs.{needs}
 use Rattle.transaction.specs.Turn.{replySize}
 use Rattle.transaction.proofs.reading.reply_size.Statement.{statement}

@@ -1,6 +1,6 @@
 -- Each arm is the case of the definition.
 -- Assumes nothing.
-use mathlib.Core.Path.{refl, ap}
+use mathlib.Core.Path.{ap}
 use borrow.Author.Needs.{needs}
 use Rattle.transaction.specs.Turn.{blockResult}
 use Rattle.transaction.proofs.writing.block_answer.Statement.{statement}

@@ -1,6 +1,6 @@
 -- By the code, as the definition has it; of an erase the range is the one rule.
 -- Assumes nothing.
-use mathlib.Core.Path.{_≡_, refl, ap, sym, _∙_}
+use mathlib.Core.Path.{refl, ap, sym, _∙_}
 use mathlib.Core.List.{[], _∷_}
 use borrow.Author.Needs.{needs}
 use Rattle.codes.specs.Numbers.{codeNumber}

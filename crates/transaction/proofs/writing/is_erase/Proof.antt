@@ -1,6 +1,6 @@
 -- One of the two codes, or the other.
 -- Assumes nothing.
-use mathlib.Core.Path.{refl, sym, _∙_}
+use mathlib.Core.Path.{sym, _∙_}
 use borrow.Author.Needs.{needs}
 use Rattle.transaction.specs.Turn.{isErase}
 use Rattle.transaction.proofs.writing.is_erase.Statement.{statement}

@@ -1,6 +1,5 @@
 -- The answer is put into the record of a refusal.
 -- Assumes nothing.
-use mathlib.Core.Path.{refl}
 use borrow.Author.Needs.{needs}
 use Rattle.transaction.proofs.writing.refuse_block.Statement.{statement}
 use Rattle.transaction.proofs.writing.refuse_block.Tie as tie

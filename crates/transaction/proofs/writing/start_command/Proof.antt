@@ -1,11 +1,10 @@
 -- What the parse tells is what the definition goes by.
 -- Assumes nothing.
 use mathlib.Core.Path.{_≡_, refl, ap, sym, _∙_, subst}
-use mathlib.Core.List.{List, []}
 use denote.Ref.{now}
 use borrow.Author.Needs.{needs}
 use borrow.Author.Tests.{eq-eqb, ne-eqb}
-use Rattle.wire.specs.Told.{Told, given, refused}
+use Rattle.wire.specs.Told.{Told, given}
 use Rattle.protocol.specs.CommandBytes.{readCommand}
 use Rattle.protocol.specs.CommandMeets.{commandTold}
 use Rattle.protocol.specs.declared.CommandBlock.{CommandBlock}

@@ -1,9 +1,8 @@
 -- Byte by byte; five extra bytes are what the array holds.
 -- Assumes nothing.
 use Prim.Native.Nat.{ℕ}
-use mathlib.Core.Path.{_≡_, refl, ap, sym, _∙_}
-use mathlib.Core.List.{List, [], _∷_, _++_}
-use lib.ListN.{length, getD}
+use mathlib.Core.Path.{ap}
+use mathlib.Core.List.{List, _++_}
 use borrow.Author.Needs.{needs}
 use Rattle.wire.specs.Bytes.{lowFirst}
 use Rattle.mock.specs.Config.{flashInfo}

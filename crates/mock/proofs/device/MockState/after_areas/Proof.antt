@@ -1,6 +1,5 @@
 -- The answer is turned into the device's.
 -- Assumes nothing.
-use mathlib.Core.Path.{refl}
 use borrow.Author.Needs.{needs}
 use Rattle.mock.proofs.device.MockState.after_areas.Statement.{statement}
 use Rattle.mock.proofs.device.MockState.after_areas.Tie as tie

@@ -1,9 +1,9 @@
 -- The length tells what it does at every call; the record is fresh.
 -- Assumes nothing.
-use mathlib.Core.Path.{refl, sym}
+use mathlib.Core.Path.{refl}
 use borrow.Author.Needs.{needs}
 use Rattle.mock.specs.Device.{created, freshState}
-use Rattle.mock.proofs.Sizes.{size-answers}
+use Rattle.mock.proofs.Lengths.{size-answers}
 use Rattle.mock.proofs.device.MockState.new.Statement.{statement}
 use Rattle.mock.proofs.device.MockState.new.Tie as tie
 

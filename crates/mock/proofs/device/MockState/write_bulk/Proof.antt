@@ -1,11 +1,8 @@
 -- A step of the session, put back into the record.
 -- Assumes nothing.
-use mathlib.Core.Path.{_≡_, refl, ap, sym, _∙_, subst}
-use denote.Ref.{now}
+use mathlib.Core.Path.{ap}
 use borrow.Author.Needs.{needs}
-use Rattle.transaction.specs.declared.session.Session.{Session}
-use Rattle.mock.specs.Steps.{StepMeets, writeStep}
-use Rattle.mock.specs.Device.{MockMeets, writeBulk, withSession}
+use Rattle.mock.specs.Device.{writeBulk, withSession}
 use Rattle.mock.proofs.device.MockState.write_bulk.Statement.{statement}
 use Rattle.mock.proofs.device.MockState.write_bulk.Tie as tie
 

@@ -1,6 +1,6 @@
 -- 65 and 51 in this order, then the append, put back into the record.
 -- Assumes nothing.
-use mathlib.Core.Path.{_≡_, refl, ap, sym, _∙_}
+use mathlib.Core.Path.{refl, ap, sym, _∙_}
 use mathlib.Core.List.{[], _∷_}
 use denote.Ref.{now}
 use lib.ListN.{length}
@@ -12,7 +12,7 @@ use Rattle.answer.specs.Told.{errorValues}
 use Rattle.answer.specs.declared.error.MockTransportError.the-variants.{UnsupportedControl, StoreLength}
 use Rattle.answer.proofs.Telling.{answers-error}
 use Rattle.mock.specs.Device.{controlRules, writeControl, withAreas}
-use Rattle.mock.proofs.Sizes.{area-answers}
+use Rattle.mock.proofs.Lengths.{area-answers}
 use Rattle.mock.proofs.device.MockState.write_control.Statement.{statement}
 use Rattle.mock.proofs.device.MockState.write_control.Tie as tie
 

@@ -14,8 +14,8 @@ use Rattle.transaction.specs.Turn.{movedBy}
 use Rattle.transaction.specs.Table.{rangeOf, sectorTurn}
 use Rattle.transaction.specs.declared.session.CommandState.the-variants.{Status}
 use Rattle.transaction.proofs.Meets.{refused-as, done-as}
-use Rattle.transaction.proofs.outcome.sector_io.Statement.{statement}
-use Rattle.transaction.proofs.outcome.sector_io.Tie as tie
+use Rattle.transaction.proofs.rows.sector_io.Statement.{statement}
+use Rattle.transaction.proofs.rows.sector_io.Tie as tie
 
 returns : tie.Need-returns
 unfolding sectorTurn orRefuse errorValues

@@ -1,10 +1,9 @@
 -- Two codes are the same if their numbers are.
 -- Assumes nothing.
-use mathlib.Core.Path.{refl}
 use borrow.Author.Needs.{needs}
 use Rattle.transaction.specs.Turn.{hasCode}
-use Rattle.transaction.proofs.outcome.has_code.Statement.{statement}
-use Rattle.transaction.proofs.outcome.has_code.Tie as tie
+use Rattle.transaction.proofs.rows.has_code.Statement.{statement}
+use Rattle.transaction.proofs.rows.has_code.Tie as tie
 
 returns : tie.Need-returns
 unfolding hasCode

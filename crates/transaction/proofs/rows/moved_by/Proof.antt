@@ -1,10 +1,9 @@
 -- Each arm is the case of the definition.
 -- Assumes nothing.
-use mathlib.Core.Path.{refl}
 use borrow.Author.Needs.{needs}
 use Rattle.transaction.specs.Turn.{movedBy}
-use Rattle.transaction.proofs.outcome.moved_by.Statement.{statement}
-use Rattle.transaction.proofs.outcome.moved_by.Tie as tie
+use Rattle.transaction.proofs.rows.moved_by.Statement.{statement}
+use Rattle.transaction.proofs.rows.moved_by.Tie as tie
 
 returns : tie.Need-returns
 unfolding movedBy

@@ -1,10 +1,10 @@
 -- Each arm is the case of the definition.
 -- Assumes nothing.
-use mathlib.Core.Path.{refl, ap}
+use mathlib.Core.Path.{ap}
 use borrow.Author.Needs.{needs}
 use Rattle.mock.specs.Steps.{sizeResult}
-use Rattle.mock.proofs.steps.size_answer.Statement.{statement}
-use Rattle.mock.proofs.steps.size_answer.Tie as tie
+use Rattle.mock.proofs.sizes.size_answer.Statement.{statement}
+use Rattle.mock.proofs.sizes.size_answer.Tie as tie
 
 returns : tie.Need-returns
 unfolding sizeResult

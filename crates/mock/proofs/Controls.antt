@@ -1,0 +1,51 @@
+-- Control calls: they keep the session; a refused one changes nothing; areas by their numbers.
+-- Assumes nothing.
+use Prim.Native.Nat.{ℕ}
+use mathlib.Core.Path.{_≡_, refl, ap}
+use mathlib.Core.List.{List}
+use lib.ListN.{length}
+use Rattle.wire.specs.Told.{refused}
+use Rattle.lent.proofs.Outcome.{either-way}
+use Rattle.areas.specs.Append.{appendStep}
+use Rattle.areas.specs.Contents.{bytesAt, contents, Sound, gains}
+use Rattle.areas.proofs.Holdings.{append-grows, append-refused}
+use Rattle.mock.specs.Device.{Call, sessionOf, controlRules, writeControl, withAreas, maskromArea}
+use Rattle.mock.specs.declared.device.MockState.{MockState}
+
+-- what a control call makes of the record and the store: its own area gains, all else stays
+pub record Controlled (s : MockState) (index : ℕ) (bytes store : List ℕ) (c : Call) : Type 0 where
+  pub session : sessionOf (c .next) ≡ sessionOf s
+  pub long : length (c .leaves) ≡ length store
+  pub sound : Sound (c .next .areas) (c .leaves)
+  pub own : contents index (c .next .areas) (c .leaves) ≡ gains (c .told) bytes (contents index (s .areas) store)
+  pub others : (b : ℕ) → (b ≡ index → ⊥) → contents b (c .next .areas) (c .leaves) ≡ contents b (s .areas) store
+
+pub control-areas : (s : MockState) (type request value index : ℕ) (bytes store : List ℕ) → Sound (s .areas) store
+    → Controlled s index bytes store (writeControl s type request value index bytes store)
+unfolding writeControl gains
+control-areas s type request value index bytes store sound =
+    let a = appendStep (s .areas) index bytes store in
+    let g = append-grows index bytes (s .areas) store sound in
+    either-way (Controlled s index bytes store) (λ number values. record { told = refused number values; next = s; leaves = store })
+    (controlRules s type request value (length store)) (record { told = a .told; next = withAreas s (a .next); leaves = a .store })
+    (λ n values. record { session = refl; long = refl; sound = sound; own = refl; others = λ b other. refl })
+    (λ met. record { session = refl; long = g .long; sound = g .sound; own = g .own; others = g .others })
+
+-- a refused control call changes nothing
+pub control-refused : (s : MockState) (type request value index : ℕ) (bytes store : List ℕ) (n : ℕ) (values : List ℕ)
+    → writeControl s type request value index bytes store .told ≡ refused n values
+    → (writeControl s type request value index bytes store .next ≡ s) × (writeControl s type request value index bytes store .leaves ≡ store)
+unfolding writeControl
+control-refused s type request value index bytes store n values =
+    let a = appendStep (s .areas) index bytes store in
+    either-way (λ (c : Call). c .told ≡ refused n values → (c .next ≡ s) × (c .leaves ≡ store))
+    (λ number vs. record { told = refused number vs; next = s; leaves = store })
+    (controlRules s type request value (length store)) (record { told = a .told; next = withAreas s (a .next); leaves = a .store })
+    (λ m vs e. (refl, refl))
+    (λ met e. let r = append-refused index bytes (s .areas) store n values e in (ap (withAreas s) (r .0), r .1))
+
+-- where an area's bytes stand is where they are found
+pub maskrom-bytes : (s : MockState) (number : ℕ) (store : List ℕ) → length store ≡ s .«store_length»
+    → bytesAt (maskromArea s number) store ≡ contents number (s .areas) store
+unfolding contents
+maskrom-bytes s number store e = rw e refl
