@@ -1,0 +1,4 @@
+-- `Going` has what the loop over turns keeps, `Checks` what the checks before it come to, `Unique` that answers allowed by one contract are equal.
+pub mod Going
+pub mod Checks
+pub mod Unique

@@ -1,0 +1,37 @@
+-- Number and values of every answer of a run, and what stands beside it.
+-- Assumes nothing.
+use Prim.Native.Nat.{ℕ}
+use mathlib.Core.Path.{_≡_}
+use mathlib.Core.List.{List}
+use Rattle.block.specs.Signature.{noSignature}
+use Rattle.finish.specs.Reply.{Reply, blank}
+use Rattle.finish.specs.declared.Beside.{Beside}
+use Rattle.budget.specs.Run.{End, tells, outOfSteps, Ran}
+use Rattle.steps.specs.declared.UsbOperation.{UsbOperation}
+use Rattle.mock.specs.declared.device.MockState.{MockState}
+use Rattle.turns.specs.declared.Stop.{Stop}
+use Rattle.turns.specs.Turn.{UsbState, usbState}
+use Rattle.turns.specs.Answers.{stopTold, besideTold}
+use Rattle.runner.specs.declared.RunAnswer.{RunAnswer}
+use Rattle.runner.specs.declared.RunAnswer.the-variants.{Ended, OutOfSteps}
+use Rattle.runner.specs.declared.UsbRun.{UsbRun}
+
+unfoldable pub answerEnd : RunAnswer → Beside → End Reply
+answerEnd (Ended stop) b = tells (stopTold stop b)
+answerEnd OutOfSteps b = outOfSteps
+
+unfoldable pub besideEnd : End Reply → Beside
+besideEnd (tells told) = besideTold told
+besideEnd outOfSteps = blank noSignature
+
+-- the record of a run that is refused before its first step
+abbrev pub unstartedBy : Stop → UsbOperation → MockState → UsbRun
+unstartedBy stop operation device =
+    record { answer = Ended stop; beside = blank noSignature; operation = operation; device = device; steps = 0 }
+
+-- a run that answers r, and leaves the flash and the caller's data so
+pub record RunMeets (r : UsbRun) (flash bytes : List ℕ) (run : Ran Reply UsbState) : Type 0 where
+  pub tells : answerEnd (r .answer) (r .beside) ≡ run .end
+  pub beside : r .beside ≡ besideEnd (run .end)
+  pub steps : r .steps ≡ run .steps
+  pub leaves : usbState (r .operation) (r .device) flash bytes ≡ run .state

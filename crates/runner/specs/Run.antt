@@ -1,0 +1,54 @@
+-- A run of an operation: what it checks, then its turns.
+-- Assumes nothing.
+use Prim.Native.Nat.{ℕ}
+use mathlib.Core.Bool.{Bool, true, false, not}
+use mathlib.Core.List.{List, [], _∷_, _++_}
+use lib.Dec.{eqb, ltb}
+use lib.ListN.{length}
+use Rattle.wire.specs.Told.{refused}
+use Rattle.wire.specs.Rules.{Rule, rule, pick}
+use Rattle.lent.specs.Outcome.{orRefuse}
+use Rattle.answer.specs.Flash.{flashRules}
+use Rattle.finish.specs.Reply.{Reply}
+use Rattle.finish.specs.declared.Kind.{Kind}
+use Rattle.finish.specs.declared.Kind.the-variants as kind
+use Rattle.steps.specs.declared.UsbOperation.{UsbOperation}
+use Rattle.steps.specs.Record.{transferLength}
+use Rattle.steps.specs.Step.{differs}
+use Rattle.budget.specs.Run.{Ran, ran, tells, runs}
+use Rattle.turns.specs.Turn.{UsbState, usbTurn}
+
+-- how much sector data an operation wants: its transfer length, where it is over sectors
+unfoldable pub sectorData : Kind → ℕ → ℕ
+sectorData kind.ChipInfo size = 0
+sectorData kind.FlashId size = 0
+sectorData kind.FlashInfo size = 0
+sectorData kind.Capability size = 0
+sectorData kind.Nothing size = 0
+sectorData kind.Storage size = 0
+sectorData kind.Read size = size
+sectorData kind.Write size = size
+
+-- 65: "the lent store isn't as long as at creation"
+abbrev pub storeDiffers : ℕ
+storeDiffers = 65
+
+-- "checks 60, 61, 65 and 27 before its first step"; 27: "sector data below the transfer length"
+unfoldable pub runRules : UsbState → ℕ → List Rule
+runRules s store =
+    flashRules (length (s .flash))
+    ++ (rule (not (eqb store (s .device .«store_length»))) storeDiffers []
+    ∷ rule (ltb (length (s .«data»)) (sectorData (s .operation .kind) (transferLength (s .operation)))) differs []
+    ∷ [])
+
+-- "A refusal writes no lent buffer and changes no record": those four take no step
+abbrev pub unstarted : UsbState → ℕ → List ℕ → Ran Reply UsbState
+unstarted s number values = ran (tells (refused number values)) 0 s
+
+-- the run of a state, with a store of that length and that budget
+unfoldable pub usbRun : UsbState → ℕ → ℕ → Ran Reply UsbState
+usbRun s store budget = orRefuse (unstarted s) (runRules s store) (runs usbTurn budget s)
+
+-- "One whole operation": command, data, status and finish
+abbrev pub wholeBudget : ℕ
+wholeBudget = 4

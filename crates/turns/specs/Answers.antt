@@ -1,0 +1,54 @@
+-- Number and values of what a run stops with, and what stands beside the answer.
+-- Assumes nothing.
+use Prim.Native.Nat.{ℕ}
+use mathlib.Core.Path.{_≡_}
+use mathlib.Core.List.{List, []}
+use lib.Dec.{eqb}
+use Rattle.wire.specs.Told.{Told, given, refused}
+use Rattle.wire.specs.Rules.{pick}
+use Rattle.block.specs.Signature.{noSignature}
+use Rattle.block.specs.Writing.{tooShort}
+use Rattle.answer.specs.Told.{errorTold, signatureBeside}
+use Rattle.finish.specs.Reply.{Reply, finishTold, blank, badSignature, besideReply}
+use Rattle.finish.specs.declared.Beside.{Beside}
+use Rattle.steps.specs.Step.{differs}
+use Rattle.budget.specs.Run.{Turned, ends, goes}
+use Rattle.steps.specs.declared.UsbOperation.{UsbOperation}
+use Rattle.mock.specs.declared.device.MockState.{MockState}
+use Rattle.turns.specs.declared.Stop.{Stop}
+use Rattle.turns.specs.declared.Stop.the-variants as stop
+use Rattle.turns.specs.declared.Turn.{Turn}
+use Rattle.turns.specs.declared.Turn.the-variants as turn
+use Rattle.turns.specs.declared.UsbTurned.{UsbTurned}
+use Rattle.turns.specs.Turn.{UsbState, usbState}
+
+-- the operation's finish, the device's refusal, or a step's
+unfoldable pub stopTold : Stop → Beside → Told Reply
+stopTold (stop.Finished finish) b = finishTold finish b
+stopTold (stop.Device error) b = errorTold error (b .signature)
+stopTold stop.OutputTooShort b = refused tooShort []
+stopTold stop.DataDiffers b = refused differs []
+
+-- the signature that 11 tells or that 56 does; zeros everywhere else
+unfoldable pub signatureTold : ℕ → List ℕ → List ℕ
+signatureTold number values = pick (eqb number badSignature) values (signatureBeside (refused number values))
+
+unfoldable pub besideTold : Told Reply → Beside
+besideTold (given reply) = besideReply reply
+besideTold (refused number values) = blank (signatureTold number values)
+
+unfoldable pub turnTold : Turn → Beside → UsbState → Turned Reply UsbState
+turnTold turn.Goes b s = goes s
+turnTold (turn.Ends stop) b s = ends (stopTold stop b) s
+
+abbrev pub endedBy : Stop → Beside → UsbOperation → MockState → UsbTurned
+endedBy stop beside operation device = record { turn = turn.Ends stop; beside = beside; operation = operation; device = device }
+
+unfoldable pub besideTurned : Turned Reply UsbState → Beside
+besideTurned (goes s) = blank noSignature
+besideTurned (ends told s) = besideTold told
+
+-- a turn that answers r, and leaves the flash and the caller's data so
+pub record TurnMeets (r : UsbTurned) (flash bytes : List ℕ) (t : Turned Reply UsbState) : Type 0 where
+  pub tells : turnTold (r .turn) (r .beside) (usbState (r .operation) (r .device) flash bytes) ≡ t
+  pub beside : r .beside ≡ besideTurned t
