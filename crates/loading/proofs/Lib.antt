@@ -1,0 +1,7 @@
+-- `Sized`: a step asks for as many bytes as it sends. `Quiet`: a control call's refusal carries no signature. `Cases`: a law for each thing that a turn comes to.
+pub mod Sized
+pub mod Quiet
+pub mod Cases
+pub mod Order
+pub mod Checks
+pub mod Unique
