@@ -2,6 +2,7 @@
 mod blocks;
 mod commands;
 mod data;
+mod devices;
 mod input;
 mod line;
 mod names;
@@ -12,13 +13,35 @@ mod replies;
 mod told;
 mod uploads;
 
+use devices::Device;
+use devices::Stood;
 use libc::STDOUT_FILENO;
+use line::Token;
 use line::call;
-use names::Group;
-use names::group_of;
+use names::ALL;
+use names::About;
+use names::CAP;
+use names::CHP;
+use names::CNV;
+use names::COD;
+use names::CRD;
+use names::CUT;
+use names::CWR;
+use names::DIR;
+use names::FID;
+use names::FIN;
+use names::IDX;
+use names::RST;
+use names::SEC;
+use names::SMP;
+use names::SRD;
+use names::STA;
+use names::STO;
+use names::SWR;
+use names::about_of;
 use operations::Current;
 use operations::Operated;
-use told::Told;
+use told::Answer;
 use told::outside;
 use told::plain;
 use uploads::Upload;
@@ -28,26 +51,28 @@ use uploads::Uploaded;
 struct World {
     upload: Upload,
     operation: Current,
+    device: Device,
 }
 
 struct Answered {
-    answer: told::Answer,
+    answer: Answer,
     world: World,
 }
 
-fn stays(answer: told::Answer, world: World) -> Answered {
+fn stays(answer: Answer, world: World) -> Answered {
     Answered { answer, world }
-}
-
-fn told_only(told: Told, world: World) -> Answered {
-    stays(plain(told), world)
 }
 
 fn with_upload(done: Uploaded, world: World) -> Answered {
     let answer = done.answer;
     let upload = done.upload;
     let operation = world.operation;
-    let world = World { upload, operation };
+    let device = world.device;
+    let world = World {
+        upload,
+        operation,
+        device,
+    };
     Answered { answer, world }
 }
 
@@ -55,41 +80,73 @@ fn with_operation(done: Operated, world: World) -> Answered {
     let answer = done.answer;
     let upload = world.upload;
     let operation = done.current;
-    let world = World { upload, operation };
+    let device = world.device;
+    let world = World {
+        upload,
+        operation,
+        device,
+    };
     Answered { answer, world }
+}
+
+fn with_device(done: Stood, world: World) -> Answered {
+    let answer = done.answer;
+    let upload = world.upload;
+    let operation = world.operation;
+    let device = done.device;
+    let world = World {
+        upload,
+        operation,
+        device,
+    };
+    Answered { answer, world }
+}
+
+// Calls on nothing that stays.
+fn answer_plain(line: &[u8], name: Token, scratch: &mut [u8]) -> Answer {
+    let letters = name.value;
+    match letters {
+        DIR | COD | STA | RST | IDX => plain(numbers::answer(line, name)),
+        SEC => plain(replies::size(line, name)),
+        CRD | SRD | SMP | STO => plain(blocks::read(line, name, scratch)),
+        CWR | CNV | SWR => blocks::write(line, name, scratch),
+        CHP | FID | FIN | CAP => replies::read(line, name, scratch),
+        ALL => uploads::all(line, name, scratch),
+        CUT => uploads::cut_up(line, name, scratch),
+        _ => plain(outside()),
+    }
 }
 
 fn answer_call(
     line: &[u8],
     world: World,
-    scratch: &mut [u8],
-    image: &mut [u8],
-    own: &mut [u8],
+    scratch: &mut [u8; 100000],
+    image: &mut [u8; 100000],
+    own: &mut [u8; 65536],
+    flash: &mut [u8; 65536],
+    store: &mut [u8; 65536],
 ) -> Answered {
     let name = call(line);
-    match group_of(name.value) {
-        Group::Numbers => told_only(numbers::answer(line, name), world),
-        Group::Size => told_only(replies::size(line, name), world),
-        Group::Reads => told_only(blocks::read(line, name, scratch), world),
-        Group::Writes => stays(blocks::write(line, name, scratch), world),
-        Group::Replies => stays(replies::read(line, name, scratch), world),
-        Group::Open => with_operation(operations::open(line, name, own), world),
-        Group::Step => with_operation(
-            operations::step(line, name, world.operation, own, scratch),
-            world,
-        ),
-        Group::Give => with_operation(
-            operations::give(line, name, world.operation, own, scratch),
-            world,
-        ),
-        Group::UploadStart => with_upload(uploads::start(line, name, image), world),
-        Group::UploadStep => with_upload(
-            uploads::step(line, name, world.upload, image, scratch),
-            world,
-        ),
-        Group::All => stays(uploads::all(line, name, scratch), world),
-        Group::Cut => stays(uploads::cut_up(line, name, scratch), world),
-        Group::Nothing => told_only(outside(), world),
+    match about_of(name.value) {
+        About::Nothing => stays(answer_plain(line, name, scratch), world),
+        About::Operation => {
+            with_operation(
+                operations::answer(line, name, world.operation, own, scratch),
+                world,
+            )
+        }
+        About::Device => {
+            with_device(
+                devices::answer(line, name, world.device, scratch, flash, store),
+                world,
+            )
+        }
+        About::Upload => {
+            with_upload(
+                uploads::answer(line, name, world.upload, image, scratch),
+                world,
+            )
+        }
     }
 }
 
@@ -122,16 +179,20 @@ fn answer_line(
     line: &[u8],
     len: usize,
     world: World,
-    out: &mut [u8],
+    out: &mut [u8; 65536],
     at: usize,
-    scratch: &mut [u8],
-    image: &mut [u8],
-    own: &mut [u8],
+    scratch: &mut [u8; 100000],
+    image: &mut [u8; 100000],
+    own: &mut [u8; 65536],
+    flash: &mut [u8; 65536],
+    store: &mut [u8; 65536],
 ) -> Printed {
     let n = out::within(line_length(len, line.len()), line);
-    let done = answer_call(&line[..n], world, scratch, image, own);
-    let next = out::answer(out, at, done.answer, scratch, own);
+    let done = answer_call(&line[..n], world, scratch, image, own, flash, store);
+    let answer = done.answer;
     let world = done.world;
+    let next = out::answer(out, at, answer, scratch, own);
+    let next = devices::show(out, next, answer.has_device, world.device, flash, store);
     Printed {
         at: end_line(out, next),
         world,
@@ -141,22 +202,29 @@ fn answer_line(
 fn new_world() -> World {
     let upload = uploads::no_upload();
     let operation = operations::no_operation();
-    World { upload, operation }
+    let device = devices::no_device();
+    World {
+        upload,
+        operation,
+        device,
+    }
 }
 
 fn run(
-    block: &mut [u8],
-    line: &mut [u8],
-    out: &mut [u8],
-    scratch: &mut [u8],
-    image: &mut [u8],
-    own: &mut [u8],
+    block: &mut [u8; 65536],
+    line: &mut [u8; 4096],
+    out: &mut [u8; 65536],
+    scratch: &mut [u8; 100000],
+    image: &mut [u8; 100000],
+    own: &mut [u8; 65536],
+    flash: &mut [u8; 65536],
+    store: &mut [u8; 65536],
 ) {
     let world = new_world();
     let mut printed = Printed { at: 0, world };
     let mut input = input::next_line(block, line, input::start());
     let mut turns = u64::MAX;
-    while turns > 0 && !input.is_over {
+    while !input.is_over {
         printed = answer_line(
             line,
             input.len,
@@ -166,8 +234,14 @@ fn run(
             scratch,
             image,
             own,
+            flash,
+            store,
         );
         input = input::next_line(block, line, input);
+        // no run comes here
+        if turns == 0 {
+            return;
+        }
         turns -= 1;
     }
     flush(out, printed.at);
@@ -180,6 +254,8 @@ fn main() {
     let mut scratch = [0u8; 100000];
     let mut image = [0u8; 100000];
     let mut own = [0u8; 65536];
+    let mut flash = [0u8; 65536];
+    let mut store = [0u8; 65536];
     run(
         &mut block,
         &mut line,
@@ -187,5 +263,7 @@ fn main() {
         &mut scratch,
         &mut image,
         &mut own,
+        &mut flash,
+        &mut store,
     );
 }

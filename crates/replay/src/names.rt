@@ -1,4 +1,4 @@
-// The names of calls and operations, three letters as one number, and the group of calls that a name belongs to.
+// The names of calls and operations, three letters as one number, and what a call is about.
 
 // numbers
 pub(crate) const DIR: u64 = 0x646972;
@@ -50,6 +50,20 @@ pub(crate) const OPN: u64 = 0x6f706e;
 pub(crate) const STP: u64 = 0x737470;
 
 pub(crate) const GIV: u64 = 0x676976;
+// the device
+pub(crate) const DVD: u64 = 0x647664;
+
+pub(crate) const DVC: u64 = 0x647663;
+
+pub(crate) const BWR: u64 = 0x627772;
+
+pub(crate) const BRD: u64 = 0x627264;
+
+pub(crate) const CTL: u64 = 0x63746c;
+
+pub(crate) const ARE: u64 = 0x617265;
+
+pub(crate) const LST: u64 = 0x6c7374;
 // uploads
 pub(crate) const UPL: u64 = 0x75706c;
 
@@ -59,36 +73,19 @@ pub(crate) const ALL: u64 = 0x616c6c;
 
 pub(crate) const CUT: u64 = 0x637574;
 
-pub(crate) enum Group {
-    Numbers,
-    Reads,
-    Writes,
-    Replies,
-    Size,
-    Open,
-    Step,
-    Give,
-    UploadStart,
-    UploadStep,
-    All,
-    Cut,
+// What a call is about: nothing that stays, or one of the things that do.
+pub(crate) enum About {
     Nothing,
+    Operation,
+    Device,
+    Upload,
 }
 
-pub(crate) fn group_of(name: u64) -> Group {
+pub(crate) fn about_of(name: u64) -> About {
     match name {
-        DIR | COD | STA | RST | IDX => Group::Numbers,
-        CRD | SRD | SMP | STO => Group::Reads,
-        CWR | CNV | SWR => Group::Writes,
-        CHP | FID | FIN | CAP => Group::Replies,
-        SEC => Group::Size,
-        OPN => Group::Open,
-        STP => Group::Step,
-        GIV => Group::Give,
-        UPL => Group::UploadStart,
-        UST => Group::UploadStep,
-        ALL => Group::All,
-        CUT => Group::Cut,
-        _ => Group::Nothing,
+        OPN | STP | GIV => About::Operation,
+        DVD | DVC | BWR | BRD | CTL | ARE | LST => About::Device,
+        UPL | UST => About::Upload,
+        _ => About::Nothing,
     }
 }

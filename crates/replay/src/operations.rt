@@ -19,9 +19,11 @@ use crate::names::ERA;
 use crate::names::ERF;
 use crate::names::FID;
 use crate::names::FIN;
+use crate::names::OPN;
 use crate::names::RDL;
 use crate::names::RST;
 use crate::names::STO;
+use crate::names::STP;
 use crate::names::SWI;
 use crate::names::WRL;
 use crate::numbers::storage;
@@ -173,7 +175,7 @@ fn with_data(line: &[u8], op: Token, own: &mut [u8]) -> Operated {
 }
 
 // `opn`
-pub(crate) fn open(line: &[u8], call: Token, own: &mut [u8]) -> Operated {
+fn open(line: &[u8], call: Token, own: &mut [u8]) -> Operated {
     let op = name(line, call);
     let letters = op.value;
     match letters {
@@ -233,13 +235,7 @@ fn stepped(current: Current, own: &[u8], out: &mut [u8]) -> Operated {
 }
 
 // `stp`
-pub(crate) fn step(
-    line: &[u8],
-    call: Token,
-    current: Current,
-    own: &[u8],
-    scratch: &mut [u8],
-) -> Operated {
+fn step(line: &[u8], call: Token, current: Current, own: &[u8], scratch: &mut [u8]) -> Operated {
     let len = number(line, call, LEN);
     let byte = number(line, len, U8);
     if !current.is_there || !is_end(line, byte) {
@@ -270,7 +266,7 @@ fn given(current: Current, bytes: &[u8], own: &mut [u8]) -> Operated {
 }
 
 // `giv`
-pub(crate) fn give(
+fn give(
     line: &[u8],
     call: Token,
     current: Current,
@@ -284,4 +280,19 @@ pub(crate) fn give(
     let n = within(bytes.as_usize(), scratch);
     let m = within(current.length, own);
     given(current, &scratch[..n], &mut own[..m])
+}
+
+pub(crate) fn answer(
+    line: &[u8],
+    call: Token,
+    current: Current,
+    own: &mut [u8],
+    scratch: &mut [u8],
+) -> Operated {
+    let letters = call.value;
+    match letters {
+        OPN => open(line, call, own),
+        STP => step(line, call, current, own, scratch),
+        _ => give(line, call, current, own, scratch),
+    }
 }

@@ -14,6 +14,16 @@ pub(crate) fn within(n: usize, s: &[u8]) -> usize
     if n < s.len() { n } else { s.len() }
 }
 
+// What stands in a slice from `from` up to `to`, or what there is of it.
+pub(crate) fn between(s: &[u8], from: usize, to: usize) -> &[u8] {
+    let end = within(to, s);
+    if from <= end {
+        &s[from..end]
+    } else {
+        &s[end..]
+    }
+}
+
 pub(crate) fn put(out: &mut [u8], at: usize, byte: u8) -> usize {
     if at < out.len() {
         out[at] = byte;
@@ -110,10 +120,14 @@ fn listed(out: &mut [u8], at: usize, values: [u64; 9], count: usize) -> usize {
     next
 }
 
+pub(crate) fn told_values(out: &mut [u8], at: usize, told: Told) -> usize {
+    let values = told.values;
+    listed(out, at, values, told.count)
+}
+
 fn told(out: &mut [u8], at: usize, told: Told) -> usize {
     let next = decimal(out, at, told.number);
-    let values = told.values;
-    listed(out, next, values, told.count)
+    told_values(out, next, told)
 }
 
 pub(crate) fn spaced_bytes(out: &mut [u8], at: usize, buffer: &[u8], n: usize) -> usize {
@@ -144,7 +158,7 @@ fn tail(
 }
 
 // The first `n` bytes of a buffer as a section, where it has one.
-fn section(out: &mut [u8], at: usize, is_there: bool, buffer: &[u8], n: usize) -> usize {
+pub(crate) fn section(out: &mut [u8], at: usize, is_there: bool, buffer: &[u8], n: usize) -> usize {
     if !is_there {
         return at;
     }

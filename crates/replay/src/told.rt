@@ -106,6 +106,8 @@ pub(crate) struct Answer {
     pub room: usize,
     pub has_own: bool,
     pub own: usize,
+    // and those of the device
+    pub has_device: bool,
 }
 
 fn made(told: Told, tail: Tail, small: [u8; 16]) -> Answer {
@@ -117,6 +119,7 @@ fn made(told: Told, tail: Tail, small: [u8; 16]) -> Answer {
         room: 0,
         has_own: false,
         own: 0,
+        has_device: false,
     }
 }
 
@@ -142,6 +145,11 @@ impl Answer {
     pub(crate) fn with_own(mut self, n: usize) -> Answer {
         self.has_own = true;
         self.own = n;
+        self
+    }
+
+    pub(crate) fn with_device(mut self) -> Answer {
+        self.has_device = true;
         self
     }
 

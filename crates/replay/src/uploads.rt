@@ -9,7 +9,8 @@ use crate::line::U16;
 use crate::line::U32;
 use crate::line::is_end;
 use crate::line::number;
-use crate::out::put;
+use crate::names::UPL;
+use crate::out::between;
 use crate::out::spaced_bytes;
 use crate::out::value;
 use crate::out::within;
@@ -90,7 +91,7 @@ fn started(start: WholeStart, length: usize) -> Uploaded {
 }
 
 // `upl`
-pub(crate) fn start(line: &[u8], name: Token, image: &mut [u8]) -> Uploaded {
+fn start(line: &[u8], name: Token, image: &mut [u8]) -> Uploaded {
     let area = number(line, name, U16);
     let check = number(line, area, 1);
     let given = data(line, check, IMAGE, image);
@@ -143,13 +144,7 @@ fn stepped(upload: Upload, image: &[u8], out: &mut [u8]) -> Uploaded {
 }
 
 // `ust`
-pub(crate) fn step(
-    line: &[u8],
-    name: Token,
-    upload: Upload,
-    image: &[u8],
-    scratch: &mut [u8],
-) -> Uploaded {
+fn step(line: &[u8], name: Token, upload: Upload, image: &[u8], scratch: &mut [u8]) -> Uploaded {
     let len = number(line, name, LEN);
     let byte = number(line, len, U8);
     if !upload.is_there || !is_end(line, byte) {
@@ -159,6 +154,20 @@ pub(crate) fn step(
     let n = within(upload.length, image);
     let m = within(len.as_usize(), scratch);
     stepped(upload, &image[..n], &mut scratch[..m])
+}
+
+pub(crate) fn answer(
+    line: &[u8],
+    name: Token,
+    upload: Upload,
+    image: &mut [u8],
+    scratch: &mut [u8],
+) -> Uploaded {
+    if name.value == UPL {
+        start(line, name, image)
+    } else {
+        step(line, name, upload, image, scratch)
+    }
 }
 
 // A list of transfers: how many, and where its text ends.
@@ -267,15 +276,6 @@ struct Cut {
     place: usize,
 }
 
-fn part_of(image: &[u8], from: usize, to: usize) -> &[u8] {
-    let end = within(to, image);
-    if from <= end {
-        &image[from..end]
-    } else {
-        &image[end..]
-    }
-}
-
 fn after_part(cut: Cut, record: MaskRomOperation, list: List, n: usize) -> Cut {
     Cut {
         record,
@@ -291,7 +291,7 @@ fn after_part(cut: Cut, record: MaskRomOperation, list: List, n: usize) -> Cut {
 fn hand_over(image: &[u8], text: &mut [u8], cut: Cut) -> Cut {
     let mut out = [0u8; 4096];
     let record = cut.record;
-    let done = record.part(part_of(image, cut.taken, cut.end), &mut out);
+    let done = record.part(between(image, cut.taken, cut.end), &mut out);
     let step = done.step;
     let next = done.next;
     let list = cut.list;

@@ -1,18 +1,15 @@
--- The turns are counted down from a number that no run uses up; every buffer keeps its length.
+-- The turns are counted down from a number that no run uses up.
 -- Assumes nothing.
-use mathlib.Core.Path.{_≡_}
-use lib.ListN.{length}
 use borrow.Author.Needs.{needs}
 use Rattle.replay.proofs.run.Statement.{statement}
 use Rattle.replay.proofs.run.Tie as tie
 
 abbrev Inv-loop : tie.InvT-loop
-Inv-loop block₀ line₀ out₀ scratch₀ image₀ own₀ printed₀ input₀ turns₀ block line out scratch image own printed input turns =
-    (length block ≡ length block₀) × (length line ≡ length line₀) × (length out ≡ length out₀)
-    × (length scratch ≡ length scratch₀) × (length image ≡ length image₀) × (length own ≡ length own₀)
+Inv-loop block₀ line₀ out₀ scratch₀ image₀ own₀ flash₀ store₀ printed₀ input₀ turns₀ block line out scratch image own flash store printed input turns =
+    Unit {0}
 
 abbrev μ-loop : tie.MeasureT-loop
-μ-loop block₀ line₀ out₀ scratch₀ image₀ own₀ printed₀ input₀ turns₀ block line out scratch image own printed input turns =
+μ-loop block₀ line₀ out₀ scratch₀ image₀ own₀ flash₀ store₀ printed₀ input₀ turns₀ block line out scratch image own flash store printed input turns =
     turns
 
 pub run-spec : {M : Type 1} → statement M
@@ -20,5 +17,4 @@ run-spec =
     tie.close
     (tie.spec Inv-loop μ-loop (λ c κs. search needs) (λ c κs. search needs) (λ c κs. search needs) (λ c. search needs)
     (λ c κs. search needs) (λ c κs. search needs) (λ c. search needs) (λ c. search needs) (λ c. search needs)
-    (λ c κs. search needs) (λ c. search needs) (λ c. search needs) (λ c. search needs) (λ c. search needs)
-    (λ c. search needs) (λ c. search needs) (λ c. search needs))
+    (λ c. search needs) (λ c κs. search needs) (λ c. search needs))
