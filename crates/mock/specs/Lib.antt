@@ -1,6 +1,4 @@
--- The stand-in device: `Config` is what it says of itself, `Effects` what the table's effects do to lent bytes, `Steps` a bulk call over the session,
--- `Device` every call over the whole record.
-pub mod Config
+-- The stand-in device: `Device` has every call over its whole record.
+pub mod Device
 pub mod Effects
 pub mod Steps
-pub mod Device
