@@ -1,11 +1,7 @@
 // A lent flash in sectors: its own size, and the ranges that lie in it.
-use super::error::MockAnswer;
-use super::error::MockResult;
 use super::error::MockTransportError;
 use block::SECTOR_SIZE;
 ghost use mathlib.Core.Path.{_≡_};
-ghost use Rattle.wire.specs.Told.{given, andThen};
-ghost use Rattle.answer.specs.Told.{Answers};
 ghost use Rattle.answer.specs.Flash.{flashSectors, sizeTold, rangeIn};
 
 const MOST_SECTORS: usize = 65536;
@@ -38,24 +34,6 @@ pub fn flash_sectors(length: usize) -> FlashSectors
         return FlashSectors::Refused(MockTransportError::TooManySectors);
     }
     FlashSectors::Whole(length / size)
-}
-
-impl FlashSectors {
-    // What the device answers to a flash's length: done, or 60 or 61.
-    pub fn answer(self) -> MockAnswer
-        ensures { λ r. ⌜ Answers r (andThen (sizeTold self) (λ sectors. given tt)) ⌝ }
-    {
-        match self {
-            FlashSectors::Whole(_) => MockAnswer {
-                result: MockResult::Done,
-                signature: [0, 0, 0, 0],
-            },
-            FlashSectors::Refused(error) => MockAnswer {
-                result: MockResult::Refused(error),
-                signature: [0, 0, 0, 0],
-            },
-        }
-    }
 }
 
 pub fn flash_range(sectors: usize, start_sector: u32, count: u16) -> RangeAnswer

@@ -1,11 +1,11 @@
 -- What a loop over turns keeps: with `used` of the budget gone, the run from here is the rest of the run from the start.
 -- Assumes nothing.
-use Prim.Native.Nat.{ℕ, suc, _+_, _-_, _<_, _≤_}
-use mathlib.Core.Path.{_≡_, ap, sym, _∙_}
-use native.Mathlib.Nat.{zero-add, add-zero, add-assoc, sub-zero}
+use Prim.Native.Nat.{ℕ, zero, suc, _+_, _-_, _<_, _≤_}
+use mathlib.Core.Path.{_≡_, refl, ap, sym, _∙_}
+use native.Mathlib.Nat.{zero-add, add-zero, add-assoc, sub-zero, sub-self}
 use native.Mathlib.Omega.{arith}
 use Rattle.wire.specs.Told.{Told}
-use Rattle.budget.specs.Run.{Turned, ends, goes, tells, outOfSteps, Ran, ran, counted, follow, runs}
+use Rattle.budget.specs.Run.{Turned, ends, goes, End, tells, outOfSteps, Ran, ran, counted, follow, runs}
 
 -- `used` steps of a run that is `whole` in the end brought it to s
 pub record On {A S : Type 0} (turn : S → Turned A S) (budget used : ℕ) (whole : Ran A S) (s : S) : Type 0 where

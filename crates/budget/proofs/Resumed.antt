@@ -1,12 +1,12 @@
 -- What holds of every run: its count, a run that goes on after its budget was used, and a budget of exactly the steps needed.
 -- Assumes nothing.
-use Prim.Native.Nat.{ℕ, zero, suc, _+_, _≤_}
+use Prim.Native.Nat.{ℕ, zero, suc, _+_, _≤_, _<_}
 use mathlib.Core.Path.{_≡_, refl, ap, sym, _∙_}
 use native.Mathlib.Nat.{zero-add, suc-add, add-assoc}
 use native.Mathlib.Numerals.{one-add}
 use native.Mathlib.Omega.{arith}
 use Rattle.wire.specs.Told.{Told}
-use Rattle.budget.specs.Run.{Turned, ends, goes, tells, outOfSteps, Ran, ran, counted, follow, runs}
+use Rattle.budget.specs.Run.{Turned, ends, goes, End, tells, outOfSteps, Ran, ran, counted, follow, runs}
 
 -- a run with none, or with more steps before it
 pub counted-none : {A S : Type 0} (r : Ran A S) → counted 0 r ≡ r

@@ -2,7 +2,7 @@
 -- Assumes nothing.
 use Prim.Native.Nat.{ℕ, zero, suc, _+_}
 use mathlib.Core.List.{[]}
-use Rattle.wire.specs.Told.{Told, refused}
+use Rattle.wire.specs.Told.{Told, given, refused}
 
 -- what a turn comes to: the last of the run, with what is told, or one more to follow
 pub data Turned (A S : Type 0) : Type 0 where

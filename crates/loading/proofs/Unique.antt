@@ -99,5 +99,5 @@ run-unique r s store₁ store₂ run p q =
     let a = loadState (r .upload) (r .device) store₁ in
     let states : a ≡ loadState (s .upload) (s .device) store₂ = p .leaves ∙ sym (q .leaves) in
     let first : _≡_ {A = LoadRun} r (record { answer = s .answer; steps = s .steps; upload = r .upload; device = r .device }) =
-        ap₂ (λ (x : LoadAnswer) (n : ℕ). record { answer = x; steps = n; upload = r .upload; device = r .device }) answers (p .steps ∙ sym (q .steps)) in
+    ap₂ (λ (x : LoadAnswer) (n : ℕ). record { answer = x; steps = n; upload = r .upload; device = r .device }) answers (p .steps ∙ sym (q .steps)) in
     (first ∙ ap (λ (z : LoadState). record { answer = s .answer; steps = s .steps; upload = z .upload; device = z .device }) states, ap (λ (z : LoadState). z .store) states)

@@ -6,7 +6,6 @@ ghost use Rattle.budget.specs.Run.{runs};
 ghost use Rattle.loading.specs.Load.{loadState, carried, loadTurn, loadRun, wholeBudget};
 ghost use Rattle.mock.specs.Device.{writeControl};
 ghost use Rattle.loading.specs.Answers.{TurnMeets, RunMeets, turnedBy, runBy, afterControl};
-
 use answer::error::MockResult;
 use answer::error::MockTransportError;
 use answer::range::FlashSectors;
@@ -183,11 +182,21 @@ pub fn run_upload(
 {
     let size = flash_sectors(flash.len());
     if let FlashSectors::Refused(error) = size {
-        return ran(LoadAnswer::Ended(LoadStop::Device(error)), 0, upload, device);
+        return ran(
+            LoadAnswer::Ended(LoadStop::Device(error)),
+            0,
+            upload,
+            device,
+        );
     }
     if store.len() != device.store_length {
         let error = MockTransportError::StoreLength;
-        return ran(LoadAnswer::Ended(LoadStop::Device(error)), 0, upload, device);
+        return ran(
+            LoadAnswer::Ended(LoadStop::Device(error)),
+            0,
+            upload,
+            device,
+        );
     }
     if image.len() != (upload.length as usize) {
         return ran(LoadAnswer::Ended(LoadStop::ImageDiffers), 0, upload, device);

@@ -1,3 +1,68 @@
--- The bulk steps, as the device's callers name them.
+-- A bulk call over the session: 60 and 61 first, then the table's turn, applied.
 -- Assumes nothing.
-unfoldable pub use Rattle.bulk.specs.Steps.{writeStepOf, writeStep, readStepOf, readStep}
+use Prim.Native.Nat.{ℕ}
+use mathlib.Core.Path.{_≡_}
+use mathlib.Core.List.{List}
+use lib.ListN.{length}
+use Rattle.wire.specs.Told.{Told, given, refused}
+use Rattle.block.specs.Signature.{noSignature}
+use Rattle.answer.specs.Told.{Answers}
+use Rattle.answer.specs.Flash.{flashSectors}
+use Rattle.answer.specs.declared.error.MockAnswer.{MockAnswer}
+use Rattle.answer.specs.declared.error.MockResult.{MockResult}
+use Rattle.answer.specs.declared.error.MockResult.the-variants as result
+use Rattle.answer.specs.declared.range.FlashSectors.{FlashSectors}
+use Rattle.answer.specs.declared.range.FlashSectors.the-variants.{Whole, Refused}
+use Rattle.transaction.specs.Table.{writeTurn, readTurn}
+use Rattle.transaction.specs.declared.session.Session.{Session}
+use Rattle.mock.specs.Effects.{flashAfter, bufferAfter}
+use Rattle.mock.specs.declared.config.MockDeviceConfig.{MockDeviceConfig}
+use Rattle.mock.specs.declared.steps.SessionStep.{SessionStep}
+
+-- what is told, the next session, and the bytes lent mutably as they are left: the flash of a write, the buffer of a read
+pub record Step : Type 0 where
+  pub told : Told Unit
+  pub next : Session
+  pub leaves : List ℕ
+
+-- 60 and 61 come before all else and keep the transaction
+abbrev pub keeps : Session → List ℕ → ℕ → List ℕ → Step
+keeps s lent number values = record { told = refused number values; next = s; leaves = lent }
+
+unfoldable pub writeStepOf : Told ℕ → Session → List ℕ → List ℕ → Step
+writeStepOf (refused number values) s flash bytes = keeps s flash number values
+writeStepOf (given sectors) s flash bytes =
+    record {
+      told = writeTurn s sectors bytes .told;
+      next = writeTurn s sectors bytes .next;
+      leaves = flashAfter (writeTurn s sectors bytes .effect) bytes flash;
+    }
+
+unfoldable pub writeStep : Session → List ℕ → List ℕ → Step
+writeStep s flash bytes = writeStepOf (flashSectors (length flash)) s flash bytes
+
+unfoldable pub readStepOf : Told ℕ → Session → MockDeviceConfig → List ℕ → List ℕ → Step
+readStepOf (refused number values) s config flash buffer = keeps s buffer number values
+readStepOf (given sectors) s config flash buffer =
+    record {
+      told = readTurn s sectors (length buffer) .told;
+      next = readTurn s sectors (length buffer) .next;
+      leaves = bufferAfter config (readTurn s sectors (length buffer) .effect) flash buffer;
+    }
+
+unfoldable pub readStep : Session → MockDeviceConfig → List ℕ → List ℕ → Step
+readStep s config flash buffer = readStepOf (flashSectors (length flash)) s config flash buffer
+
+-- a step that answers r and leaves its bytes `after`
+pub record StepMeets (r : SessionStep) (after : List ℕ) (s : Step) : Type 0 where
+  pub tells : Answers (r .answer) (s .told)
+  pub next : r .session ≡ s .next
+  pub leaves : after ≡ s .leaves
+
+-- the answer to a flash's length, as the code makes it
+unfoldable pub sizeResult : FlashSectors → MockResult
+sizeResult (Whole sectors) = result.Done
+sizeResult (Refused error) = result.Refused error
+
+abbrev pub sizeAnswer : FlashSectors → MockAnswer
+sizeAnswer size = record { result = sizeResult size; signature = noSignature }

@@ -1,4 +1,9 @@
 // The device's record, handed in and back by value; its flash and its area store are lent.
+use super::config::MockDeviceConfig;
+use super::sizes::size_answer;
+use super::steps::SessionStep;
+use super::steps::read_step;
+use super::steps::write_step;
 use answer::error::MockAnswer;
 use answer::error::MockResult;
 use answer::error::MockTransportError;
@@ -7,10 +12,6 @@ use areas::AreaAnswer;
 use areas::AreaFound;
 use areas::AreaStep;
 use areas::Areas;
-use bulk::SessionStep;
-use bulk::read_step;
-use bulk::write_step;
-use identity::MockDeviceConfig;
 use transaction::session::CommandState;
 use transaction::session::LastReset;
 use transaction::session::Session;
@@ -60,7 +61,7 @@ impl MockState {
         ensures { λ r. ⌜ CreateMeets r (created config (length (now (flash .entry))) (length (now (store .entry)))) ⌝ }
     {
         MockStep {
-            answer: flash_sectors(flash.len()).answer(),
+            answer: size_answer(flash_sectors(flash.len())),
             state: MockState {
                 config: config,
                 areas: Areas::new(),

@@ -23,7 +23,7 @@ use Rattle.steps.specs.declared.Operation.the-variants as operation
 use Rattle.steps.specs.declared.Asked.{Asked}
 use Rattle.steps.specs.declared.Asked.the-variants as asked
 use Rattle.steps.specs.declared.UsbOperation.{UsbOperation}
-use Rattle.steps.specs.Record.{ioOf, transferLength, turned}
+use Rattle.steps.specs.Record.{ioOf, transferLength, inbandLength, turned, commandOut}
 use Rattle.steps.specs.Step.{Asks, writesCommand, writesData, reads, finished, Step, does, stays, sectorStep, commandStep, ioStep, statusStep, finishedTold, finishStep, stepOf, usbStep}
 use Rattle.turns.specs.Turn.{isWrite}
 

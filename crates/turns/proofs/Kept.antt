@@ -1,7 +1,7 @@
 -- No turn changes an operation's kind.
 -- Assumes nothing.
 use Prim.Native.Nat.{ℕ}
-use mathlib.Core.Path.{_≡_, refl, subst}
+use mathlib.Core.Path.{_≡_, refl, subst, _∙_}
 use mathlib.Core.List.{List, [], _∷_}
 use lib.Dec.{ltb}
 use lib.ListN.{length, take}
@@ -19,10 +19,11 @@ use Rattle.steps.specs.declared.Asked.the-variants as asked
 use Rattle.steps.specs.declared.UsbOperation.{UsbOperation}
 use Rattle.steps.specs.Record.{ioOf, transferLength, turned, commandOut, commanded}
 use Rattle.steps.specs.Step.{Asks, writesCommand, writesData, reads, finished, Step, does, stays, sectorStep, commandStep, ioStep, statusStep, finishStep, stepOf, usbStep}
-use Rattle.steps.proofs.Laws.{give-keeps}
+use Rattle.steps.specs.Give.{Give, keeps, nothingAsked, asksFor, owed, received, giveOf, usbGive}
 use Rattle.mock.specs.Device.{writeBulk, readBulk}
 use Rattle.budget.specs.Run.{Turned, ends, goes}
-use Rattle.turns.specs.Turn.{UsbState, usbState, onward, bufferFor, landed, gives, received, transfers, usbTurn}
+use Rattle.turns.specs.Turn.{UsbState, usbState, onward, bufferFor, landed, gives, transfers, usbTurn}
+use Rattle.turns.specs.Turn as turns
 
 module _ (op : UsbOperation) where
   sector-kept : (lent : ℕ) (asks : Asks) (a : Asked) → sectorStep op lent asks a .next .kind ≡ op .kind
@@ -45,6 +46,20 @@ module _ (op : UsbOperation) where
   step-of-kept operation.CommandStatus lent room = refl
   step-of-kept operation.Finish lent room = refl
 
+  received-kept : (a : Asked) (bytes : List ℕ) → received a op bytes .next .kind ≡ op .kind
+  unfolding received
+  received-kept asked.Nothing bytes = refl
+  received-kept asked.Inband bytes = refl
+  received-kept asked.Sectors bytes = refl
+  received-kept asked.Status bytes = refl
+
+  give-kept : (a : Asked) (bytes : List ℕ) (lent : ℕ) → giveOf a op bytes lent .next .kind ≡ op .kind
+  unfolding giveOf
+  give-kept a bytes lent =
+      either-way (λ (g : Give). g .next .kind ≡ op .kind) (keeps op)
+      (rule (nothingAsked a) 22 [] ∷ rule (ltb (asksFor a op) (length bytes)) 21 [] ∷ rule (ltb lent (owed a op)) 27 [] ∷ [])
+      (received a op bytes) (λ n values. refl) (λ met. received-kept a bytes)
+
 -- whatever a turn comes to, the operation in it is of this kind
 abbrev pub OfKind : Kind → Turned Reply UsbState → Type 0
 OfKind k (ends told s) = s .operation .kind ≡ k
@@ -58,13 +73,13 @@ module _ (s : UsbState) where
 
   gives-kept : (a : Asked) (bytes : List ℕ) → gives a s bytes .operation .kind ≡ s .operation .kind
   unfolding gives
-  gives-kept asked.Nothing bytes = give-keeps (s .operation) bytes 0 .kind
-  gives-kept asked.Inband bytes = give-keeps (s .operation) bytes 0 .kind
-  gives-kept asked.Sectors bytes = give-keeps (s .operation) [] (length (s .«data»)) .kind
-  gives-kept asked.Status bytes = give-keeps (s .operation) bytes 0 .kind
+  gives-kept asked.Nothing bytes = give-kept (s .operation) (s .operation .asked) bytes 0
+  gives-kept asked.Inband bytes = give-kept (s .operation) (s .operation .asked) bytes 0
+  gives-kept asked.Sectors bytes = give-kept (s .operation) (s .operation .asked) [] (length (s .«data»))
+  gives-kept asked.Status bytes = give-kept (s .operation) (s .operation .asked) bytes 0
 
-  got-kept : (told : Told Unit) (a : Asked) (bytes : List ℕ) → OfKind (s .operation .kind) (received told a s bytes)
-  unfolding received
+  got-kept : (told : Told Unit) (a : Asked) (bytes : List ℕ) → OfKind (s .operation .kind) (turns.received told a s bytes)
+  unfolding turns.received
   got-kept (given done) a bytes = gives-kept a bytes
   got-kept (refused number values) a bytes = refl
 

@@ -2,6 +2,7 @@
 -- Assumes nothing.
 use Prim.Native.Nat.{ℕ, _+_, _-_, _≤_}
 use mathlib.Core.Path.{_≡_, refl, ap, ap₂, sym, subst, _∙_}
+use mathlib.Core.Bool.{Bool, true, false}
 use mathlib.Core.List.{List, [], _∷_, _++_, append-nil}
 use native.Mathlib.Omega.{arith}
 use lib.Dec.{ltb}
@@ -13,6 +14,7 @@ use Rattle.wire.specs.Bytes.{front}
 use Rattle.lent.proofs.Outcome.{either-way}
 use Rattle.block.specs.Signature.{signatureIn}
 use Rattle.status.specs.Failure.{failureNumber, failureValues}
+use Rattle.status.specs.declared.failure.UsbOperationError.{UsbOperationError}
 use Rattle.status.specs.declared.failure.UsbOperationError.the-variants as failure
 use Rattle.answer.specs.Told.{errorNumber, errorValues, errorTold, resultTold, innerSignature, signatureBeside, Answers}
 use Rattle.answer.specs.declared.error.MockTransportError.{MockTransportError}
@@ -30,7 +32,7 @@ use Rattle.steps.specs.declared.UsbOperation.{UsbOperation}
 use Rattle.steps.specs.declared.UsbStep.{UsbStep}
 use Rattle.steps.specs.declared.UsbStep.the-variants as step
 use Rattle.steps.specs.declared.UsbStepped.{UsbStepped}
-use Rattle.steps.specs.Step.{Asks, finishedTold, usbStep, stepTold, besideAsks, besideAt, StepMeets}
+use Rattle.steps.specs.Step.{Asks, writesCommand, writesData, reads, finished, finishedTold, usbStep, stepTold, besideAsks, besideAt, StepMeets}
 use Rattle.steps.specs.Give.{Give, keeps, nothingAsked, asksFor, owed, giveOf}
 use Rattle.steps.specs.Give as give
 use Rattle.mock.specs.declared.device.MockState.{MockState}
@@ -41,7 +43,7 @@ use Rattle.turns.specs.declared.Stop.the-variants as stop
 use Rattle.turns.specs.declared.UsbTurned.{UsbTurned}
 use Rattle.turns.specs.Turn.{UsbState, usbState, onward, wrote, landed, gives, received, got, bufferFor, transfers, usbTurn}
 use Rattle.turns.specs.Answers.{stopTold, signatureTold, besideTold, turnTold, endedBy, besideTurned, TurnMeets}
-use Rattle.turns.proofs.Fine.{Fine, fine}
+use Rattle.turns.proofs.Fine.{Fine, FineRead, fine}
 
 -- the device's answer
 

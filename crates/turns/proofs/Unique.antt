@@ -2,7 +2,7 @@
 -- Assumes nothing.
 use Prim.Native.Nat.{ℕ}
 use mathlib.Core.Path.{_≡_, refl, ap, ap₂, sym, _∙_}
-use mathlib.Core.List.{List}
+use mathlib.Core.List.{List, [], _∷_}
 use lib.Dec.{eqb, ltb}
 use lib.ListN.{getD}
 use Rattle.wire.specs.Told.{Told, given, refused}
@@ -20,6 +20,8 @@ use Rattle.finish.specs.declared.Beside.{Beside}
 use Rattle.finish.specs.declared.FinishAnswer.{FinishAnswer}
 use Rattle.finish.specs.declared.FinishAnswer.the-variants.{Replied, Failed}
 use Rattle.finish.proofs.Unique.{answerOf, answer-of}
+use Rattle.steps.specs.declared.UsbOperation.{UsbOperation}
+use Rattle.mock.specs.declared.device.MockState.{MockState}
 use Rattle.budget.specs.Run.{Turned, ends, goes}
 use Rattle.turns.specs.declared.Stop.{Stop}
 use Rattle.turns.specs.declared.Stop.the-variants as stop

@@ -10,7 +10,7 @@ use steps::UsbOperation;
 use steps::UsbStep;
 use steps::UsbStepped;
 ghost use mathlib.Core.Path.{_≡_};
-ghost use mathlib.Core.List.{List};
+ghost use mathlib.Core.List.{List, []};
 ghost use Prim.Native.Nat.{ℕ, _≤_};
 ghost use lib.ListN.{length, take};
 ghost use Rattle.wire.specs.Told.{Told};

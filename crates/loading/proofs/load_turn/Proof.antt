@@ -61,13 +61,13 @@ returns c =
     let s = loadState (a .upload) (a .device) (now (a .store)) in
     let block = st .last .1 .1 .0 in
     let bytes : take (k .size) block ≡ sent step =
-        ap (take (k .size)) (st .ensures .leaves)
-        ∙ ap (λ (n : ℕ). take n (front (sent step) blank)) (whole-sized (upload p) (image p) 4096 k (asks-it p))
-        ∙ front-seen (sent step) blank in
+    ap (take (k .size)) (st .ensures .leaves)
+    ∙ ap (λ (n : ℕ). take n (front (sent step) blank)) (whole-sized (upload p) (image p) 4096 k (asks-it p))
+    ∙ front-seen (sent step) blank in
     let same : carried (st .result .next) (writeControl (a .device) (k .«request_type») (k .request) (k .value) (k .index) (take (k .size) block) (now (a .store)))
-        ≡ loadTurn (image p) s =
-        ap₂ (λ (u : WholeUpload) (l : List ℕ). carried u (writeControl (a .device) (k .«request_type») (k .request) (k .value) (k .index) l (now (a .store)))) (st .ensures .next) bytes
-        ∙ sym (turn-carries (image p) s k (asks-it p)) in
+    ≡ loadTurn (image p) s =
+    ap₂ (λ (u : WholeUpload) (l : List ℕ). carried u (writeControl (a .device) (k .«request_type») (k .request) (k .value) (k .index) l (now (a .store)))) (st .ensures .next) bytes
+    ∙ sym (turn-carries (image p) s k (asks-it p)) in
     record { tells = c .before .before .carry .ensures .tells ∙ same }
 
 returns-2 : tie.Need-returns-2
@@ -77,9 +77,11 @@ returns-2 c =
     let st = c .before .before .before .before .before .step in
     let s = loadState (a .upload) (a .device) (now (a .store)) in
     let told = sym (st .ensures .tells) ∙ ap stepTold (c .before .enum-told .given .1) in
-    record { tells = ap (λ (r : LoadTurned). turnTold (r .turn) (loadState (r .upload) (r .device) (now (a .store)))) (c .turned .ensures)
-        ∙ ap (λ (u : WholeUpload). ends (given tt) (loadState u (a .device) (now (a .store)))) (st .ensures .next)
-        ∙ sym (turn-finishes (now (a .image)) s told) }
+    record {
+      tells = ap (λ (r : LoadTurned). turnTold (r .turn) (loadState (r .upload) (r .device) (now (a .store)))) (c .turned .ensures)
+          ∙ ap (λ (u : WholeUpload). ends (given tt) (loadState u (a .device) (now (a .store)))) (st .ensures .next)
+          ∙ sym (turn-finishes (now (a .image)) s told);
+    }
 
 returns-3 : tie.Need-returns-3
 unfolding stepTold turnTold stopTold
@@ -88,9 +90,11 @@ returns-3 c =
     let st = c .before .before .before .before .before .step in
     let s = loadState (a .upload) (a .device) (now (a .store)) in
     let told = sym (st .ensures .tells) ∙ ap stepTold (c .before .enum-told2 .given .1) in
-    record { tells = ap (λ (r : LoadTurned). turnTold (r .turn) (loadState (r .upload) (r .device) (now (a .store)))) (c .turned2 .ensures)
-        ∙ ap (λ (u : WholeUpload). ends (refused tooShort []) (loadState u (a .device) (now (a .store)))) (st .ensures .next)
-        ∙ sym (turn-refuses (now (a .image)) s tooShort [] told) }
+    record {
+      tells = ap (λ (r : LoadTurned). turnTold (r .turn) (loadState (r .upload) (r .device) (now (a .store)))) (c .turned2 .ensures)
+          ∙ ap (λ (u : WholeUpload). ends (refused tooShort []) (loadState u (a .device) (now (a .store)))) (st .ensures .next)
+          ∙ sym (turn-refuses (now (a .image)) s tooShort [] told);
+    }
 
 returns-4 : tie.Need-returns-4
 unfolding stepTold turnTold stopTold
@@ -99,9 +103,11 @@ returns-4 c =
     let st = c .before .before .before .before .before .step in
     let s = loadState (a .upload) (a .device) (now (a .store)) in
     let told = sym (st .ensures .tells) ∙ ap stepTold (c .before .enum-told3 .given .1) in
-    record { tells = ap (λ (r : LoadTurned). turnTold (r .turn) (loadState (r .upload) (r .device) (now (a .store)))) (c .turned3 .ensures)
-        ∙ ap (λ (u : WholeUpload). ends (refused differs []) (loadState u (a .device) (now (a .store)))) (st .ensures .next)
-        ∙ sym (turn-refuses (now (a .image)) s differs [] told) }
+    record {
+      tells = ap (λ (r : LoadTurned). turnTold (r .turn) (loadState (r .upload) (r .device) (now (a .store)))) (c .turned3 .ensures)
+          ∙ ap (λ (u : WholeUpload). ends (refused differs []) (loadState u (a .device) (now (a .store)))) (st .ensures .next)
+          ∙ sym (turn-refuses (now (a .image)) s differs [] told);
+    }
 
 pub load-turn-spec : {M : Type 1} → statement M
 load-turn-spec =

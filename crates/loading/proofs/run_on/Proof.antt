@@ -37,7 +37,7 @@ loop-again c =
     let more : l .used < a .budget = omega (arith, l .inv .0 .within) in
     let s′ = loadState (t .result .upload) (t .result .device) (t .last .1 .1 .1 .0) in
     let goes-here : loadTurn (now (a .image)) (loadState (l .now-upload) (l .now-device) (l .store)) ≡ goes s′ =
-        sym (t .ensures .tells) ∙ ap (λ (x : LoadTurn). turnTold x s′) (c .enum-told .given .1) in
+    sym (t .ensures .tells) ∙ ap (λ (x : LoadTurn). turnTold x s′) (c .enum-told .given .1) in
     (goes-on (loadTurn (now (a .image))) (a .budget) (l .used) (loadState (l .now-upload) (l .now-device) (l .store)) s′ more goes-here (l .inv .0), t .kept .1 .1 .1 .0 ∙ l .inv .1)
 
 returns : tie.Need-returns Inv-loop μ-loop
@@ -59,7 +59,7 @@ returns-2 c =
     let s′ = loadState (t .result .upload) (t .result .device) (t .last .1 .1 .1 .0) in
     let told = stopTold (c .before .turn .given .0 .0) in
     let ends-here : loadTurn (now (a .image)) (loadState (l .now-upload) (l .now-device) (l .store)) ≡ ends told s′ =
-        sym (t .ensures .tells) ∙ ap (λ (x : LoadTurn). turnTold x s′) (c .before .turn .given .1) in
+    sym (t .ensures .tells) ∙ ap (λ (x : LoadTurn). turnTold x s′) (c .before .turn .given .1) in
     let whole = stops (loadTurn (now (a .image))) (a .budget) (l .used) (loadState (l .now-upload) (l .now-device) (l .store)) s′ told more ends-here (l .inv .0) in
     record { tells = sym (ap (λ (r : Ran Unit LoadState). r .end) whole); steps = sym (ap (λ (r : Ran Unit LoadState). r .steps) whole); leaves = sym (ap (λ (r : Ran Unit LoadState). r .state) whole) }
 

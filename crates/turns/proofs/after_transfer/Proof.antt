@@ -1,6 +1,6 @@
 -- What the device answered is told, and nothing else changes.
 -- Assumes nothing.
-use mathlib.Core.Path.{ap, sym, subst, _∙_}
+use mathlib.Core.Path.{_≡_, ap, sym, subst, _∙_}
 use borrow.Author.Needs.{needs}
 use Rattle.finish.specs.declared.Beside.{Beside}
 use Rattle.turns.specs.declared.Stop.the-variants as stop

@@ -2,6 +2,7 @@
 -- Assumes nothing.
 use mathlib.Core.Path.{ap, sym}
 use borrow.Author.Needs.{needs}
+use Rattle.finish.specs.declared.Kind.{Kind}
 use Rattle.turns.specs.Turn.{isWrite}
 use Rattle.turns.proofs.is_write.Statement.{statement}
 use Rattle.turns.proofs.is_write.Tie as tie

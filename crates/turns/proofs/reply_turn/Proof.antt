@@ -1,11 +1,12 @@
 -- A refused read is the end; what another one left in the buffer is given.
 -- Assumes nothing.
 use Prim.Native.Nat.{ℕ}
-use mathlib.Core.Path.{refl, ap, _∙_}
+use mathlib.Core.Path.{_≡_, refl, ap, _∙_}
 use mathlib.Core.List.{List}
 use borrow.Author.Needs.{needs}
 use denote.Ref.{now}
 use Rattle.steps.specs.declared.Asked.the-variants as asked
+use Rattle.steps.specs.declared.UsbOperation.{UsbOperation}
 use Rattle.steps.specs.Give.{usbGive}
 use Rattle.mock.specs.Device.{readBulk}
 use Rattle.turns.specs.Turn.{landed, gives}

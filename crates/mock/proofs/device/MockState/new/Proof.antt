@@ -3,13 +3,15 @@
 use mathlib.Core.Path.{refl}
 use borrow.Author.Needs.{needs}
 use Rattle.mock.specs.Device.{created, freshState}
+use Rattle.mock.proofs.Lengths.{size-answers}
 use Rattle.mock.proofs.device.MockState.new.Statement.{statement}
 use Rattle.mock.proofs.device.MockState.new.Tie as tie
 
 returns : tie.Need-returns
 unfolding created freshState
 returns c =
-    rw (c .new .ensures, ← c .before .before .flash-sectors .ensures) (record { tells = c .before .answer .ensures; fresh = refl })
+    rw (c .before .size-answer .ensures, c .new .ensures, ← c .before .before .flash-sectors .ensures)
+    (record { tells = size-answers (c .before .before .flash-sectors .result); fresh = refl })
 
 pub new-spec : {M : Type 1} → statement M
 new-spec = tie.close (tie.spec (λ c κs. search needs) (λ c κs. search needs) (λ c κs. search needs) returns)

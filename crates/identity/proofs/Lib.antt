@@ -1,3 +1,0 @@
--- `Five` has an array of five taken apart, `Examples` P13.
-pub mod Five
-pub mod Examples
