@@ -101,7 +101,12 @@ pub(crate) fn apply_to_flash(effect: Effect, flash: &mut [u8], data: &[u8])
     }
 }
 
-pub(crate) fn apply_to_buffer(effect: Effect, config: MockDeviceConfig, flash: &[u8], data: &mut [u8])
+pub(crate) fn apply_to_buffer(
+    effect: Effect,
+    config: MockDeviceConfig,
+    flash: &[u8],
+    data: &mut [u8],
+)
     requires { ⌜ (length (now flash) / sectorSize ≤ 65536) × EffectFits (length (now flash) / sectorSize) (length (now «data»)) effect ⌝ }
     ensures { λ _. ⌜ now («data» .exit) ≡ bufferAfter config effect (now (flash .entry)) (now («data» .entry)) ⌝ }
 {

@@ -145,8 +145,7 @@ gone-leaves budget s next reply told h (gone b t e same) =
 
 -- the data step of an operation whose command the device awaits data for
 module _ (budget : ℕ) (s : UsbState) (reply : Reply) (c : CommandBlock) (enough : transferLength (s .operation) ≤ length (s .«data»))
-  (here : s .operation .next ≡ operation.IO) (waits : s .device .«current_command» ≡ state.IO c) (e : runs usbTurn budget s .end ≡ tells (given reply)) where
-
+    (here : s .operation .next ≡ operation.IO) (waits : s .device .«current_command» ≡ state.IO c) (e : runs usbTurn budget s .end ≡ tells (given reply)) where
   data-written : s .operation .kind ≡ kind.Write
       → runs usbTurn budget s .state .flash ≡ over (c .«cd_address» * sectorSize) (take (transferLength (s .operation)) (s .«data»)) (s .flash)
   unfolding usbTurn transfers leftAt writeBulk
@@ -186,8 +185,7 @@ pub record Ready (s : UsbState) : Type 0 where
   pub long : transferLength (s .operation) ≡ 0 → ⊥
 
 module _ (budget : ℕ) (s : UsbState) (reply : Reply) (enough : transferLength (s .operation) ≤ length (s .«data»)) (r : Ready s)
-  (e : runs usbTurn budget s .end ≡ tells (given reply)) where
-
+    (e : runs usbTurn budget s .end ≡ tells (given reply)) where
   -- the state once the command is out
   abbrev sent : Call
   sent = writeBulk (s .device) (s .flash) (commandOut (s .operation))
@@ -225,10 +223,11 @@ module _ (budget : ℕ) (s : UsbState) (reply : Reply) (enough : transferLength 
   run-read k code (gone b t f same) =
       let c = s .operation .command in
       let taken = command-taken t in
-      let d = data-read-out b begun reply c enough at-data (taken .0) f k code in
-      (ap (λ (z : UsbState). z .flash) same ∙ d .0 ∙ taken .1,
-      ap (λ (z : UsbState). z .«data») same ∙ d .1
-      ∙ ap (λ (l : List ℕ). front (front (field (c .«cd_address» * sectorSize) (c .«cd_length» * sectorSize) l) (take (transferLength (s .operation)) (s .«data»))) (s .«data»)) (taken .1))
+      let d = data-read-out b begun reply c enough at-data (taken .0) f k code in (
+        ap (λ (z : UsbState). z .flash) same ∙ d .0 ∙ taken .1,
+        ap (λ (z : UsbState). z .«data») same ∙ d .1
+            ∙ ap (λ (l : List ℕ). front (front (field (c .«cd_address» * sectorSize) (c .«cd_length» * sectorSize) l) (take (transferLength (s .operation)) (s .«data»))) (s .«data»)) (taken .1),
+      )
 
 -- where the run's own checks are met the data is long enough
 enough-lent : (s : UsbState) (store : ℕ) → sectorData (s .operation .kind) (transferLength (s .operation)) ≡ transferLength (s .operation) → Met (runRules s store)
@@ -246,8 +245,8 @@ write-lands s store budget reply r k =
     (λ (x : Ran Reply UsbState). x .end ≡ tells (given reply) → x .state .flash ≡ over (s .operation .command .«cd_address» * sectorSize) (take (transferLength (s .operation)) (s .«data»)) (s .flash))
     (unstarted s) (runRules s store) (runs usbTurn budget s) (λ n values e. not-told n values reply e)
     (λ met e.
-        let enough = enough-lent s store (ap (λ (x : Kind). sectorData x (transferLength (s .operation))) k) met in
-        run-written budget s reply enough r e k (command-gone budget s reply enough r e))
+    let enough = enough-lent s store (ap (λ (x : Kind). sectorData x (transferLength (s .operation))) k) met in
+    run-written budget s reply enough r e k (command-gone budget s reply enough r e))
 
 -- AN UNREFUSED READ gives the flash's bytes at its sectors, and leaves the flash as it was
 pub read-lands : (s : UsbState) (store budget : ℕ) (reply : Reply) → Ready s → s .operation .kind ≡ kind.Read → s .operation .command .«cd_code» ≡ ReadLBA
@@ -258,10 +257,10 @@ unfolding usbRun sectorData
 read-lands s store budget reply r k code =
     either-way
     (λ (x : Ran Reply UsbState).
-        x .end ≡ tells (given reply)
-        → (x .state .flash ≡ s .flash)
-        × (x .state .«data» ≡ front (front (field (s .operation .command .«cd_address» * sectorSize) (s .operation .command .«cd_length» * sectorSize) (s .flash)) (take (transferLength (s .operation)) (s .«data»))) (s .«data»)))
+    x .end ≡ tells (given reply)
+    → (x .state .flash ≡ s .flash)
+    × (x .state .«data» ≡ front (front (field (s .operation .command .«cd_address» * sectorSize) (s .operation .command .«cd_length» * sectorSize) (s .flash)) (take (transferLength (s .operation)) (s .«data»))) (s .«data»)))
     (unstarted s) (runRules s store) (runs usbTurn budget s) (λ n values e. not-told n values reply e)
     (λ met e.
-        let enough = enough-lent s store (ap (λ (x : Kind). sectorData x (transferLength (s .operation))) k) met in
-        run-read budget s reply enough r e k code (command-gone budget s reply enough r e))
+    let enough = enough-lent s store (ap (λ (x : Kind). sectorData x (transferLength (s .operation))) k) met in
+    run-read budget s reply enough r e k code (command-gone budget s reply enough r e))
