@@ -1,6 +1,6 @@
 -- What a block asks for, and its refusals in their order.
 -- Assumes nothing.
-use Prim.Native.Nat.{ℕ}
+use Prim.Native.Nat.{ℕ, _≤_}
 use mathlib.Core.Bool.{Bool, not}
 use mathlib.Core.List.{List, [], _∷_}
 use lib.ListN.{length}
@@ -15,7 +15,7 @@ use Rattle.card.specs.declared.Request.{Request}
 use Rattle.card.specs.declared.Request.the-variants as request
 use Rattle.card.specs.declared.CardAnswer.{CardAnswer}
 use Rattle.card.specs.declared.CardAnswer.the-variants as answer
-use Rattle.card.specs.Block.{blockLength, fieldsOf, blockCheck, allZero, isKind, tooLarge, chipInfoKind, flashIdKind, flashInfoKind, capabilityKind, eraseLbaKind, eraseForceKind, readKind, writeKind, resetKind, storageKind, switchKind, uploadKind}
+use Rattle.card.specs.Block.{blockLength, fieldsOf, blockCheck, allZero, isKind, tooLarge, chipInfoKind, flashIdKind, flashInfoKind, capabilityKind, eraseLbaKind, eraseForceKind, readKind, writeKind, resetKind, storageKind, switchKind, uploadKind, mostSectors, longestImage}
 
 -- 45: "reset above 4"
 abbrev pub unknownReset : ℕ
@@ -69,3 +69,19 @@ cardTold answer.UnknownKind = refused 41 []
 cardTold answer.NotZero = refused 42 []
 cardTold answer.TooLarge = refused 43 []
 cardTold answer.UnknownReset = refused unknownReset []
+
+-- a request within the bounds of 43
+unfoldable pub Fits : Request → Type 0
+Fits request.ChipInfo = Unit
+Fits request.FlashId = Unit
+Fits request.FlashInfo = Unit
+Fits request.Capability = Unit
+Fits (request.EraseLba first count) = Unit
+Fits (request.EraseForce first count) = Unit
+Fits (request.ReadLba first count) = count ≤ mostSectors
+Fits (request.WriteLba first count fill) = count ≤ mostSectors
+Fits (request.ResetDevice opcode) = Unit
+Fits request.Storage = Unit
+Fits (request.SwitchStorage index) = Unit
+Fits (request.WriteArea area n fill) = n ≤ longestImage
+Fits (request.WriteAreaNoCrc area n fill) = n ≤ longestImage

@@ -1,0 +1,40 @@
+-- The bench from block to block: "Block k (from 1) has tag k", whatever came before.
+-- Assumes nothing.
+use Prim.Native.Nat.{ℕ, _+_, _%_, _^_}
+use mathlib.Core.Path.{_≡_}
+use mathlib.Core.List.{List}
+use Rattle.mock.specs.declared.device.MockState.{MockState}
+use Rattle.mock.specs.Config.{defaultConfig}
+use Rattle.mock.specs.Device.{freshState}
+use Rattle.verdict.specs.Verdict.{verdictTold, besideDealt}
+use Rattle.verdict.specs.Deal.{Deal, head}
+use Rattle.deck.specs.declared.Bench.{Bench}
+use Rattle.deck.specs.declared.DeckStep.{DeckStep}
+use Rattle.deck.specs.Dealing.{dealBlock}
+
+-- "The device starts as the Rust's default"
+abbrev pub freshBench : ℕ → Bench
+freshBench storeLength = record { device = freshState defaultConfig storeLength; number = 0; tag = 0 }
+
+-- "the tag goes on from 4,294,967,295 to 0"
+abbrev pub nextTag : Bench → ℕ
+nextTag bench = (bench .tag + 1) % 2 ^ 32
+
+-- the printed number, in 64 bits
+abbrev pub nextNumber : Bench → ℕ
+nextNumber bench = (bench .number + 1) % 2 ^ 64
+
+abbrev pub benchAt : MockState → ℕ → ℕ → Bench
+benchAt device number tag = record { device = device; number = number; tag = tag }
+
+-- what the next block comes to
+abbrev pub nextDeal : Bench → List ℕ → List ℕ → List ℕ → Deal
+nextDeal bench block flash store = dealBlock (nextTag bench) block (head (bench .device) flash store)
+
+-- a step that answers r and leaves flash and store so; refused blocks count, too
+pub record StepMeets (r : DeckStep) (flash store : List ℕ) (bench : Bench) (block before held : List ℕ) : Type 0 where
+  pub tells : verdictTold (r .verdict) (r .beside) ≡ nextDeal bench block before held .told
+  pub beside : r .beside ≡ besideDealt (nextDeal bench block before held .told)
+  pub leaves : head (r .bench .device) flash store ≡ nextDeal bench block before held .leaves
+  pub number : r .bench .number ≡ nextNumber bench
+  pub tag : r .bench .tag ≡ nextTag bench

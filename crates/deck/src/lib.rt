@@ -1,0 +1,264 @@
+// A deck: one 512-byte block after the other, each dealt to the stand-in.
+use card::CardAnswer;
+use card::Request;
+use card::read_card;
+use finish::Beside;
+use loading::run_whole_upload;
+use maskrom::WholeUpload;
+use maskrom::write_area;
+use maskrom::write_area_no_crc;
+use mock::config::MockDeviceConfig;
+use mock::device::MockState;
+use operation::capability;
+use operation::chip_info;
+use operation::erase_force;
+use operation::erase_lba;
+use operation::flash_id;
+use operation::flash_info;
+use operation::read_lba;
+use operation::reset_device;
+use operation::storage;
+use operation::switch_storage;
+use operation::write_lba;
+use runner::run_whole;
+use runner::run_whole_write;
+use steps::UsbOperation;
+use verdict::Dealt;
+use verdict::Verdict;
+use verdict::loaded;
+use verdict::operated;
+use verdict::turned_away;
+ghost use mathlib.Core.Path.{_≡_};
+ghost use mathlib.Core.Bool.{true, false};
+ghost use mathlib.Core.List.{[]};
+ghost use Prim.Native.Nat.{_≤_, _*_};
+ghost use lib.ListN.{length, replicate};
+ghost use Rattle.wire.specs.Told.{number};
+ghost use Rattle.protocol.specs.Commands.{readLbaCommand, writeLbaCommand};
+ghost use Rattle.finish.specs.declared.Kind.the-variants as kind;
+ghost use Rattle.steps.specs.Record.{fresh};
+ghost use Rattle.card.specs.Reading.{cardTold, Fits};
+ghost use Rattle.verdict.specs.Deal.{head, DealMeets};
+ghost use Rattle.deck.specs.Dealing.{room, operate, load, loadOf, carryOut, dealBlock};
+ghost use Rattle.deck.specs.Bench.{freshBench, StepMeets};
+
+// The stand-in, and the number and the tag of the last block.
+pub struct Bench {
+    pub device: MockState,
+    pub number: u64,
+    pub tag: u32,
+}
+
+// What a block came to, and the bench after it; the block's number is the bench's.
+pub struct DeckStep {
+    pub verdict: Verdict,
+    pub beside: Beside,
+    pub bench: Bench,
+}
+
+// As many bytes as the longest image and the data of 16 sectors have.
+fn filled(fill: u8) -> [u8; 8192]
+    ensures { λ r. ⌜ r ≡ replicate room fill ⌝ }
+{
+    [fill; 8192]
+}
+
+// An operation without sector data.
+fn command(operation: UsbOperation, device: MockState, flash: &mut [u8], store: &[u8]) -> Dealt
+    ensures { λ r. ⌜ DealMeets r (now (flash .exit)) (now (store .entry)) (operate operation [] (head device (now (flash .entry)) (now (store .entry)))) ⌝ }
+{
+    let mut none = [0u8; 0];
+    operated(run_whole(operation, device, flash, store, &mut none))
+}
+
+fn read_sectors(
+    tag: u32,
+    first: u32,
+    count: u16,
+    device: MockState,
+    flash: &mut [u8],
+    store: &[u8],
+) -> Dealt
+    requires { ⌜ count ≤ 16 ⌝ }
+    ensures { λ r. ⌜ DealMeets r (now (flash .exit)) (now (store .entry)) (operate (fresh kind.Read (readLbaCommand tag first count)) (replicate (count * 512) 0) (head device (now (flash .entry)) (now (store .entry)))) ⌝ }
+{
+    let size = (count as usize) * 512;
+    let mut data = filled(0);
+    let start = read_lba(tag, first, size);
+    let operation = start.operation;
+    operated(run_whole(operation, device, flash, store, &mut data[..size]))
+}
+
+fn write_sectors(
+    tag: u32,
+    first: u32,
+    count: u16,
+    fill: u8,
+    device: MockState,
+    flash: &mut [u8],
+    store: &[u8],
+) -> Dealt
+    requires { ⌜ count ≤ 16 ⌝ }
+    ensures { λ r. ⌜ DealMeets r (now (flash .exit)) (now (store .entry)) (operate (fresh kind.Write (writeLbaCommand tag first count)) (replicate (count * 512) fill) (head device (now (flash .entry)) (now (store .entry)))) ⌝ }
+{
+    let size = (count as usize) * 512;
+    let data = filled(fill);
+    let start = write_lba(tag, first, size);
+    let operation = start.operation;
+    operated(run_whole_write(operation, device, flash, store, &data[..size]))
+}
+
+// A whole upload that was just started.
+fn upload(
+    upload: WholeUpload,
+    device: MockState,
+    flash: &[u8],
+    store: &mut [u8],
+    image: &[u8],
+) -> Dealt
+    ensures { λ r. ⌜ DealMeets r (now (flash .entry)) (now (store .exit)) (loadOf upload (now (image .entry)) (head device (now (flash .entry)) (now (store .entry)))) ⌝ }
+{
+    loaded(run_whole_upload(upload, device, flash, store, image))
+}
+
+fn upload_checked(
+    area: u16,
+    length: u32,
+    fill: u8,
+    device: MockState,
+    flash: &[u8],
+    store: &mut [u8],
+) -> Dealt
+    requires { ⌜ length ≤ 8192 ⌝ }
+    ensures { λ r. ⌜ DealMeets r (now (flash .entry)) (now (store .exit)) (load area true (replicate length fill) (head device (now (flash .entry)) (now (store .entry)))) ⌝ }
+{
+    let n = length as usize;
+    let image = filled(fill);
+    let start = write_area(area, &image[..n]);
+    let fresh = start.upload;
+    upload(fresh, device, flash, store, &image[..n])
+}
+
+fn upload_unchecked(
+    area: u16,
+    length: u32,
+    fill: u8,
+    device: MockState,
+    flash: &[u8],
+    store: &mut [u8],
+) -> Dealt
+    requires { ⌜ length ≤ 8192 ⌝ }
+    ensures { λ r. ⌜ DealMeets r (now (flash .entry)) (now (store .exit)) (load area false (replicate length fill) (head device (now (flash .entry)) (now (store .entry)))) ⌝ }
+{
+    let n = length as usize;
+    let image = filled(fill);
+    let start = write_area_no_crc(area, &image[..n]);
+    let fresh = start.upload;
+    upload(fresh, device, flash, store, &image[..n])
+}
+
+// Carries out what a block asks for.
+fn deal_request(
+    tag: u32,
+    request: Request,
+    device: MockState,
+    flash: &mut [u8],
+    store: &mut [u8],
+) -> Dealt
+    requires { ⌜ Fits request ⌝ }
+    ensures { λ r. ⌜ DealMeets r (now (flash .exit)) (now (store .exit)) (carryOut tag request (head device (now (flash .entry)) (now (store .entry)))) ⌝ }
+{
+    match request {
+        Request::ChipInfo => command(chip_info(tag), device, flash, store),
+        Request::FlashId => command(flash_id(tag), device, flash, store),
+        Request::FlashInfo => command(flash_info(tag), device, flash, store),
+        Request::Capability => command(capability(tag), device, flash, store),
+        Request::EraseLba(first, count) => {
+            command(erase_lba(tag, first, count), device, flash, store)
+        }
+        Request::EraseForce(first, count) => {
+            command(erase_force(tag, first, count), device, flash, store)
+        }
+        Request::ReadLba(first, count) => read_sectors(tag, first, count, device, flash, store),
+        Request::WriteLba(first, count, fill) => {
+            write_sectors(tag, first, count, fill, device, flash, store)
+        }
+        Request::ResetDevice(opcode) => command(reset_device(tag, opcode), device, flash, store),
+        Request::Storage => command(storage(tag), device, flash, store),
+        Request::SwitchStorage(index) => command(switch_storage(tag, index), device, flash, store),
+        Request::WriteArea(area, length, fill) => {
+            upload_checked(area, length, fill, device, flash, store)
+        }
+        Request::WriteAreaNoCrc(area, length, fill) => {
+            upload_unchecked(area, length, fill, device, flash, store)
+        }
+    }
+}
+
+fn card_number(card: CardAnswer) -> u8
+    ensures { λ r. ⌜ r ≡ number (cardTold card) ⌝ }
+{
+    match card {
+        CardAnswer::Asks(_) => 0,
+        CardAnswer::Short => 44,
+        CardAnswer::BadCheck => 40,
+        CardAnswer::UnknownKind => 41,
+        CardAnswer::NotZero => 42,
+        CardAnswer::TooLarge => 43,
+        CardAnswer::UnknownReset => 45,
+    }
+}
+
+// Deals the block that has this tag.
+fn deal_block(
+    tag: u32,
+    block: &[u8],
+    device: MockState,
+    flash: &mut [u8],
+    store: &mut [u8],
+) -> Dealt
+    ensures { λ r. ⌜ DealMeets r (now (flash .exit)) (now (store .exit)) (dealBlock tag (now (block .entry)) (head device (now (flash .entry)) (now (store .entry)))) ⌝ }
+{
+    let card = read_card(tag, block);
+    let CardAnswer::Asks(request) = card else {
+        return turned_away(card_number(card), device);
+    };
+    deal_request(tag, request, device, flash, store)
+}
+
+impl Bench {
+    // The Rust's default device, before the first block.
+    pub fn new(flash: &[u8], store: &[u8]) -> Bench
+        ensures { λ r. ⌜ r ≡ freshBench (length (now (store .entry))) ⌝ }
+    {
+        let made = MockState::new(MockDeviceConfig::default(), flash, store);
+        let device = made.state;
+        Bench {
+            device,
+            number: 0,
+            tag: 0,
+        }
+    }
+
+    // Deals the next block. Refused ones count, too.
+    pub fn deal(self, block: &[u8], flash: &mut [u8], store: &mut [u8]) -> DeckStep
+        ensures { λ r. ⌜ StepMeets r (now (flash .exit)) (now (store .exit)) self (now (block .entry)) (now (flash .entry)) (now (store .entry)) ⌝ }
+    {
+        let number = std::num::wrapping_add_u64(self.number, 1);
+        let tag = std::num::wrapping_add_u32(self.tag, 1);
+        let held = self.device;
+        let dealt = deal_block(tag, block, held, flash, store);
+        let verdict = dealt.verdict;
+        let beside = dealt.beside;
+        let device = dealt.device;
+        DeckStep {
+            verdict,
+            beside,
+            bench: Bench {
+                device,
+                number,
+                tag,
+            },
+        }
+    }
+}

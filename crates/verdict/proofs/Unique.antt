@@ -1,0 +1,48 @@
+-- Two answers that a contract allows are equal: a verdict is read off what it tells.
+-- Assumes nothing.
+use Prim.Native.Nat.{ℕ}
+use mathlib.Core.Path.{_≡_, refl, ap, ap₂, sym, _∙_}
+use mathlib.Core.List.{List}
+use Rattle.wire.specs.Told.{Told, given, refused}
+use Rattle.finish.specs.Reply.{Reply, finishTold}
+use Rattle.finish.specs.declared.Beside.{Beside}
+use Rattle.finish.specs.declared.FinishAnswer.{FinishAnswer}
+use Rattle.finish.specs.declared.FinishAnswer.the-variants.{Replied, Failed}
+use Rattle.finish.proofs.Unique.{answerOf, answer-of}
+use Rattle.mock.specs.declared.device.MockState.{MockState}
+use Rattle.verdict.specs.declared.Verdict.{Verdict}
+use Rattle.verdict.specs.declared.Verdict.the-variants.{Done, Refused}
+use Rattle.verdict.specs.declared.Dealt.{Dealt}
+use Rattle.verdict.specs.Verdict.{verdictTold}
+use Rattle.verdict.specs.Deal.{Head, head, Deal, DealMeets}
+
+abbrev ofFinish : FinishAnswer → Verdict
+ofFinish (Replied reply) = Done reply
+ofFinish (Failed error) = Refused 0
+
+abbrev verdictFor : Told Reply → Verdict
+verdictFor (given reply) = ofFinish (answerOf (given reply))
+verdictFor (refused number values) = Refused number
+
+verdict-for : (v : Verdict) (b : Beside) → verdictFor (verdictTold v b) ≡ v
+unfolding verdictTold finishTold
+verdict-for (Done reply) b = ap ofFinish (answer-of (Replied reply) b)
+verdict-for (Refused number) b = refl
+
+pub same-verdict : (v w : Verdict) (b c : Beside) → verdictTold v b ≡ verdictTold w c → v ≡ w
+same-verdict v w b c e = sym (verdict-for v b) ∙ ap verdictFor e ∙ verdict-for w c
+
+abbrev dealtAs : Verdict → Beside → MockState → Dealt
+dealtAs verdict beside device = record { verdict = verdict; beside = beside; device = device }
+
+pub deal-unique : (r s : Dealt) (flash₁ flash₂ store₁ store₂ : List ℕ) (d : Deal) → DealMeets r flash₁ store₁ d → DealMeets s flash₂ store₂ d
+    → (r ≡ s) × (flash₁ ≡ flash₂) × (store₁ ≡ store₂)
+deal-unique r s flash₁ flash₂ store₁ store₂ d p q =
+    let heads : head (r .device) flash₁ store₁ ≡ head (s .device) flash₂ store₂ = p .leaves ∙ sym (q .leaves) in
+    let verdicts : r .verdict ≡ s .verdict = same-verdict (r .verdict) (s .verdict) (r .beside) (s .beside) (p .tells ∙ sym (q .tells)) in
+    let first : _≡_ {A = Dealt} r (dealtAs (s .verdict) (s .beside) (r .device)) =
+    ap₂ (λ (v : Verdict) (b : Beside). dealtAs v b (r .device)) verdicts (p .beside ∙ sym (q .beside)) in (
+      first ∙ ap (λ (h : Head). dealtAs (s .verdict) (s .beside) (h .device)) heads,
+      ap (λ (h : Head). h .flash) heads,
+      ap (λ (h : Head). h .store) heads,
+    )
