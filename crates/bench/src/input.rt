@@ -1,0 +1,55 @@
+// Standard input in chunks of whole blocks, whatever the reads bring.
+use libc::STDIN_FILENO;
+ghost use Rattle.io.specs.Counts.{Counts};
+
+pub(crate) const CHUNK: usize = 65536;
+
+// How many bytes of the chunk were read, and whether the input is over or could not be read on.
+pub(crate) struct Input {
+    pub count: usize,
+    pub is_over: bool,
+    pub has_failed: bool,
+}
+
+// `n`, or the slice's length where that is less.
+pub(crate) fn within(n: usize, s: &[u8]) -> usize
+    ensures { λ r. ⌜ Counts r (now (s .entry)) ⌝ }
+{
+    if n < s.len() { n } else { s.len() }
+}
+
+// One read behind the bytes that are there.
+fn read_behind(chunk: &mut [u8], input: Input) -> Input {
+    let at = within(input.count, chunk);
+    let rest = &mut chunk[at..];
+    let got = libc::read(STDIN_FILENO, rest);
+    if got <= 0 {
+        return Input {
+            count: at,
+            is_over: true,
+            has_failed: got < 0,
+        };
+    }
+    let more = io::count(got, rest);
+    Input {
+        count: at + more,
+        is_over: false,
+        has_failed: false,
+    }
+}
+
+// Fills the chunk, up to the end of the input. Every read before that brings a byte at least.
+pub(crate) fn fill(chunk: &mut [u8; 65536]) -> Input {
+    let mut input = Input {
+        count: 0,
+        is_over: false,
+        has_failed: false,
+    };
+    for _ in 0..CHUNK {
+        if input.is_over || input.count >= CHUNK {
+            return input;
+        }
+        input = read_behind(chunk, input);
+    }
+    input
+}
