@@ -8,10 +8,10 @@ use native.Mathlib.Nat.{zero-add}
 use native.Mathlib.Omega.{arith}
 use lib.ListN.{length}
 use Rattle.wire.specs.Told.{Told, given, refused}
-use Rattle.transfer.specs.Does.{Does, does, said, sent, after}
+use Rattle.transfer.specs.Does.{does, said, sent, after}
 use Rattle.transfer.specs.Moves.{blockSize}
 use Rattle.maskrom.specs.declared.WholeUpload.{WholeUpload}
-use Rattle.maskrom.specs.Answers.{Asks, writes, finish, control}
+use Rattle.maskrom.specs.Answers.{writes, finish, control}
 use Rattle.maskrom.specs.Whole.{freshWhole, wholeStep}
 use Rattle.upload.specs.Upload.{uploadBytes, cut}
 use Rattle.upload.specs.Drive.{Transfer, transfer}
@@ -20,7 +20,7 @@ use Rattle.upload.proofs.Sends.{Sends, finishes, sends}
 use Rattle.upload.proofs.WholeImage.{image-sends}
 use Rattle.mock.specs.declared.device.MockState.{MockState}
 use Rattle.mock.specs.Device.{Call, writeControl}
-use Rattle.budget.specs.Run.{Turned, ends, goes, tells, outOfSteps, Ran, ran, counted, follow, runs}
+use Rattle.budget.specs.Run.{ends, tells, outOfSteps, Ran, ran, counted, follow, runs}
 use Rattle.loading.specs.Load.{LoadState, loadState, onward, carried, carries, loadTurn, loadRun}
 
 -- the control write of a transfer: "type 0x40, request 0xc, value 0, index the area"

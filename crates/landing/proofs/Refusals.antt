@@ -2,7 +2,7 @@
 -- was, so 58 and 59 alone.
 -- Assumes nothing.
 use Prim.Native.Nat.{ℕ, _+_, _*_, _/_, _<_, _≤_}
-use mathlib.Core.Path.{_≡_, refl, ap, sym, subst, _∙_}
+use mathlib.Core.Path.{_≡_, refl, sym, _∙_}
 use mathlib.Core.Bool.{Bool}
 use mathlib.Core.List.{List, []}
 use native.Mathlib.Omega.{arith}
@@ -25,7 +25,7 @@ use Rattle.answer.specs.Flash.{flashSectors, sizeTold}
 use Rattle.answer.specs.declared.range.FlashSectors.the-variants as size
 use Rattle.mock.specs.declared.device.MockState.{MockState}
 use Rattle.mock.specs.Device.{Call, isUpload, controlRules, withAreas, writeControl}
-use Rattle.budget.specs.Run.{tells, outOfSteps, endTold, Ran, runs}
+use Rattle.budget.specs.Run.{endTold, Ran, runs}
 use Rattle.loading.specs.Load.{LoadState, loadState, loadTurn, wholeBudget}
 use Rattle.loading.proofs.Checks.{unrefused}
 use Rattle.landing.proofs.Loads.{Loads, spent, finished, stopped, sent-on, written, uploadRun, fresh-loads}
@@ -45,7 +45,7 @@ module _ (areas : Areas) (number : ℕ) (bytes store : List ℕ) where
       by-test (λ (o : Appending). UploadTold (o .told)) (leb slotCount (p .slot)) (λ e. no-slot)
       (λ e. by-test (λ (o : Appending). UploadTold (o .told)) (ltb (slotSize (length store)) (p .used + length bytes)) (λ f. slot-full) (λ f. accepted))
 
-  append-long : length (appendStep areas number bytes store .store) ≡ length store
+  pub append-long : length (appendStep areas number bytes store .store) ≡ length store
   unfolding appendStep appendRules appendedAt
   append-long =
       let p = place number (areas .slots) in
