@@ -33,7 +33,7 @@ uploadRun area checked image flash device store budget = loadRun image flash bud
 
 -- a run with so many steps that has these transfers to make, from this device and store
 pub data Loads (area : ℕ) : List (List ℕ) → ℕ → MockState → List ℕ → Ran Unit LoadState → Type 0 where
-  spent : (pieces : List (List ℕ)) (device : MockState) (store : List ℕ) (s : LoadState) → Loads area pieces zero device store (ran outOfSteps 0 s)
+  spent : (pieces : List (List ℕ)) (device : MockState) (store : List ℕ) (u : WholeUpload) → Loads area pieces zero device store (ran outOfSteps 0 (loadState u device store))
   finished : (k : ℕ) (device : MockState) (store : List ℕ) (u : WholeUpload) → Loads area [] (suc k) device store (ran (tells (given tt)) 1 (loadState u device store))
   stopped : (k : ℕ) (bytes : List ℕ) (pieces : List (List ℕ)) (device : MockState) (store : List ℕ) (u : WholeUpload) (number : ℕ) (values : List ℕ)
       → written device area bytes store .told ≡ refused number values
@@ -72,7 +72,7 @@ module _ (image : List ℕ) (area : ℕ) where
   loads : (k : ℕ) (u : WholeUpload) (ts : List Transfer) (pieces : List (List ℕ)) → Sends (λ (v : WholeUpload) (room : ℕ). wholeStep v image room) u ts
       → ts ≡ map (transfer area) pieces → (device : MockState) (store : List ℕ) → Loads area pieces k device store (runs (loadTurn image) k (loadState u device store))
   unfolding runs follow
-  loads zero u ts pieces s e device store = spent pieces device store (loadState u device store)
+  loads zero u ts pieces s e device store = spent pieces device store u
   loads (suc k) u ts [] (finishes r r′ f) e device store =
       rw (last-turn r r′ device store (f blockSize (omega arith))) (finished k device store r′)
   loads (suc k) u ts (p ∷ pieces) (finishes r r′ f) e device store = absurd (let z : _≡_ {A = ℕ} 0 1 = cc in omega arith)
