@@ -52,7 +52,7 @@ record Going (device : MockState) (flash : ℕ) (s : UsbState) : Type 0 where
   ended : s .operation .next ≡ operation.Finish → s .device .«current_command» ≡ None
 
 -- what a read leaves of the caller's data is as long as it was
-landed-long : (a : Asked) (bytes lent : List ℕ) → length lent ≤ length (landed a bytes lent)
+pub landed-long : (a : Asked) (bytes lent : List ℕ) → length lent ≤ length (landed a bytes lent)
 unfolding landed
 landed-long asked.Nothing bytes lent = omega arith
 landed-long asked.Inband bytes lent = omega arith

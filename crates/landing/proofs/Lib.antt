@@ -9,3 +9,8 @@ pub mod Lands
 pub mod Keeps
 pub mod Ended
 pub mod Idle
+pub mod Calls
+pub mod Answered
+pub mod Begins
+pub mod Moved
+pub mod Rows
