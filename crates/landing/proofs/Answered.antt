@@ -1,6 +1,6 @@
 -- An operation at its status, at a device that awaits it: the status is success with the command's tag, and so the finish gives the reply.
 -- Assumes nothing.
-use Prim.Native.Nat.{ℕ, suc, _<_, _≤_, _^_}
+use Prim.Native.Nat.{ℕ, suc, _<_, _^_}
 use mathlib.Core.Path.{_≡_, refl, ap, _∙_}
 use mathlib.Core.List.{List, [], _++_, append-assoc}
 use native.Mathlib.Omega.{arith}
@@ -20,7 +20,7 @@ use Rattle.steps.specs.declared.Operation.the-variants as operation
 use Rattle.steps.specs.declared.Asked.the-variants as asked
 use Rattle.steps.specs.declared.UsbOperation.{UsbOperation}
 use Rattle.steps.specs.Record.{transferLength, turned, withStatus}
-use Rattle.steps.specs.Step.{Step, finishedTold, statusStep, finishStep, usbStep}
+use Rattle.steps.specs.Step.{Step, finishedTold, statusStep, finishStep}
 use Rattle.steps.specs.Give.{Give, asksFor, owed, nothingAsked, usbGive}
 use Rattle.steps.specs.Give as giving
 use Rattle.steps.proofs.Laws.{at-status, at-finish}
@@ -32,11 +32,10 @@ use Rattle.transaction.specs.declared.session.CommandState.the-variants.{None, 
 use Rattle.transaction.specs.declared.outcome.Effect.the-variants as effect
 use Rattle.transaction.specs.declared.outcome.ReplyKind.the-variants as reply
 use Rattle.mock.specs.Effects.{replyBytes, bufferAfter}
-use Rattle.mock.specs.declared.device.MockState.{MockState}
 use Rattle.mock.specs.Device.{Call, withSession, readBulk}
-use Rattle.budget.specs.Run.{Turned, ends, goes, tells, Ran, follow, runs}
+use Rattle.budget.specs.Run.{ends, goes, tells, follow, runs}
 use Rattle.turns.specs.Turn.{UsbState, usbState, bufferFor, landed, gives, received, got, transfers, after, usbTurn}
-use Rattle.landing.proofs.Calls.{asCall, reads-as}
+use Rattle.landing.proofs.Calls.{reads-as}
 
 -- the finish is the last turn, whatever it tells
 finish-ends : (t : Told Reply) (s : UsbState) → transfers (finishedTold t) [] s ≡ ends t s

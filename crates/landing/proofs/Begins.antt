@@ -8,7 +8,6 @@ use lib.ListN.{length, replicate}
 use borrow.Author.Tests.{eq-eqb, ne-eqb}
 use Rattle.wire.specs.Told.{Told, given, refused}
 use Rattle.lent.specs.Outcome.{orRefuse}
-use Rattle.protocol.specs.CommandBytes.{readCommand}
 use Rattle.protocol.specs.declared.CommandBlock.{CommandBlock}
 use Rattle.protocol.proofs.Trips.{BlockFits, reads-back}
 use Rattle.finish.specs.Reply.{Reply}
@@ -28,22 +27,17 @@ use Rattle.mock.specs.Effects.{flashAfter}
 use Rattle.mock.specs.declared.device.MockState.{MockState}
 use Rattle.mock.specs.Device.{Call, sessionOf, withSession, writeBulk}
 use Rattle.mock.proofs.Frames.{write-long}
-use Rattle.budget.specs.Run.{Turned, ends, goes, tells, Ran, follow, runs}
+use Rattle.budget.specs.Run.{tells, Ran, follow, runs}
 use Rattle.turns.specs.Turn.{UsbState, usbState, onward, wrote, transfers, usbTurn}
 use Rattle.runner.specs.Run.{sectorData, usbRun, wholeBudget}
 use Rattle.runner.proofs.Checks.{unrefused}
+use Rattle.landing.proofs.Stands.{Standing}
 use Rattle.landing.proofs.Calls.{asCall, writes-as}
 use Rattle.landing.proofs.Answered.{answered}
 
 -- one whole operation from its start
 abbrev pub operationRun : Kind → CommandBlock → MockState → List ℕ → List ℕ → ℕ → Ran Reply UsbState
 operationRun k c device flash bytes store = usbRun (usbState (fresh k c) device flash bytes) store wholeBudget
-
--- a device with no transaction, lent a flash of so many sectors and a store of that length
-pub record Standing (device : MockState) (flash : List ℕ) (store sectors : ℕ) : Type 0 where
-  pub legal : flashSectors (length flash) ≡ given sectors
-  pub stored : store ≡ device .«store_length»
-  pub none : device .«current_command» ≡ None
 
 -- the state once its command is out and the device awaits its data
 abbrev pub awaiting : Kind → CommandBlock → MockState → List ℕ → List ℕ → UsbState

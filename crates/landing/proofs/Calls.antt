@@ -1,7 +1,7 @@
 -- A bulk call at a device with a flash of whole sectors is the table's turn for its transaction, applied.
 -- Assumes nothing.
 use Prim.Native.Nat.{ℕ}
-use mathlib.Core.Path.{_≡_, refl, ap, _∙_}
+use mathlib.Core.Path.{_≡_, ap, _∙_}
 use mathlib.Core.List.{List}
 use lib.ListN.{length}
 use Rattle.wire.specs.Told.{Told, given}

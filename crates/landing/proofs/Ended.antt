@@ -8,7 +8,7 @@ use native.Mathlib.Omega.{arith}
 use lib.Dec.{eqb}
 use lib.ListN.{length, replicate}
 use borrow.Author.Tests.{eqb-true, not-false}
-use Rattle.wire.specs.Told.{Told, given, refused}
+use Rattle.wire.specs.Told.{given, refused}
 use Rattle.wire.specs.Rules.{rule}
 use Rattle.lent.specs.Outcome.{orRefuse}
 use Rattle.lent.proofs.Outcome.{by-test, either-way}
@@ -18,16 +18,16 @@ use Rattle.block.specs.Sector.{sectorSize}
 use Rattle.protocol.specs.declared.CommandBlock.{CommandBlock}
 use Rattle.answer.specs.Flash.{flashSectors}
 use Rattle.transaction.specs.Turn.{Turn, refuses, done, hasCode, isIn, movedBy, replySize}
-use Rattle.transaction.specs.Table.{rangeOf, rangeRule, lengthRule, sectorTurn, replyTurn, codeTurn, readIoTurn, statusTurn, readRow}
+use Rattle.transaction.specs.Table.{rangeOf, rangeRule, lengthRule, sectorTurn, replyTurn, codeTurn, readIoTurn, writeTurn, statusTurn, readRow, readTurn}
 use Rattle.transaction.specs.declared.session.CommandState.{CommandState}
 use Rattle.transaction.specs.declared.session.CommandState.the-variants.{None, IO, Status}
 use Rattle.transaction.specs.declared.session.LastReset.{LastReset}
 use Rattle.transaction.specs.declared.session.Session.{Session}
 use Rattle.transaction.proofs.Sane.{write-sane, read-sane}
-use Rattle.mock.specs.Steps.{Step, writeStepOf, writeStep, readStepOf, readStep}
 use Rattle.mock.specs.declared.device.MockState.{MockState}
-use Rattle.mock.specs.Device.{sessionOf, writeBulk, readBulk}
+use Rattle.mock.specs.Device.{Call, sessionOf, writeBulk, readBulk}
 use Rattle.transaction.specs.declared.outcome.ReplyKind.the-variants as reply
+use Rattle.landing.proofs.Calls.{writes-as, reads-as}
 
 -- whatever the transaction is, a read of 13 bytes leaves none
 module _ (last : LastReset) where
@@ -65,22 +65,21 @@ module _ (device : MockState) (flash : List ℕ) (sectors : ℕ) (legal : flashS
   -- a refused bulk call ends the transaction
   pub write-ends : (bytes : List ℕ) (n : ℕ) (values : List ℕ) → writeBulk device flash bytes .told ≡ refused n values
       → writeBulk device flash bytes .next .«current_command» ≡ None
-  unfolding writeBulk writeStep writeStepOf
   write-ends bytes n values e =
-      let same = ap (λ (t : Told ℕ). writeStepOf t (sessionOf device) flash bytes) legal in
-      let ended = write-sane (sessionOf device) sectors bytes .ends n values (ap (λ (x : Step). x .told) (sym same) ∙ e) in
-      ap (λ (x : Step). x .next .«current_command») same ∙ ap (λ (x : Session). x .«current_command») (ended .0)
+      let call = writes-as device flash bytes sectors (device .«current_command») (writeTurn (sessionOf device) sectors bytes) legal refl refl in
+      let ended = write-sane (sessionOf device) sectors bytes .ends n values (ap (λ (c : Call). c .told) (sym call) ∙ e) in
+      ap (λ (c : Call). c .next .«current_command») call ∙ ap (λ (x : Session). x .«current_command») (ended .0)
 
   pub read-ends : (buffer : List ℕ) (n : ℕ) (values : List ℕ) → readBulk device flash buffer .told ≡ refused n values
       → readBulk device flash buffer .next .«current_command» ≡ None
-  unfolding readBulk readStep readStepOf
   read-ends buffer n values e =
-      let same = ap (λ (t : Told ℕ). readStepOf t (sessionOf device) (device .config) flash buffer) legal in
-      let ended = read-sane (sessionOf device) sectors (length buffer) .ends n values (ap (λ (x : Step). x .told) (sym same) ∙ e) in
-      ap (λ (x : Step). x .next .«current_command») same ∙ ap (λ (x : Session). x .«current_command») (ended .0)
+      let call = reads-as device flash buffer sectors (device .«current_command») (readTurn (sessionOf device) sectors (length buffer)) legal refl refl in
+      let ended = read-sane (sessionOf device) sectors (length buffer) .ends n values (ap (λ (c : Call). c .told) (sym call) ∙ e) in
+      ap (λ (c : Call). c .next .«current_command») call ∙ ap (λ (x : Session). x .«current_command») (ended .0)
 
   pub status-ends : readBulk device flash (replicate 13 0) .next .«current_command» ≡ None
-  unfolding readBulk readStep readStepOf Ends
+  unfolding Ends
   status-ends =
-      ap (λ (t : Told ℕ). readStepOf t (sessionOf device) (device .config) flash (replicate 13 0) .next .«current_command») legal
+      ap (λ (c : Call). c .next .«current_command»)
+      (reads-as device flash (replicate 13 0) sectors (device .«current_command») (readTurn (sessionOf device) sectors 13) legal refl refl)
       ∙ row-ends (device .«last_reset») (device .«current_command») sectors

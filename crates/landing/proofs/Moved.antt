@@ -1,13 +1,13 @@
 -- The data of an operation from its start, which the device awaits: the table's turn for it decides how the run ends.
 -- Assumes nothing.
 use Prim.Native.Nat.{ℕ, _/_, _≤_}
-use mathlib.Core.Path.{_≡_, refl, ap, sym, _∙_}
+use mathlib.Core.Path.{_≡_, refl, ap, _∙_}
 use mathlib.Core.List.{List, [], append-nil, _++_}
 use native.Mathlib.Omega.{arith}
-use lib.ListN.{length, take, drop, replicate, length-replicate, drop-of-length-le}
+use lib.ListN.{length, take, replicate, length-replicate, drop-of-length-le}
 use lib.Seq.{length-take-le}
 use borrow.Author.Tests.{ne-eqb}
-use Rattle.wire.specs.Told.{Told, given, refused}
+use Rattle.wire.specs.Told.{given, refused}
 use Rattle.wire.specs.Bytes.{front}
 use Rattle.block.specs.Sector.{sectorSize}
 use Rattle.protocol.specs.declared.CommandBlock.{CommandBlock}
@@ -36,14 +36,15 @@ use Rattle.transaction.specs.declared.outcome.Effect.the-variants as effect
 use Rattle.transaction.specs.declared.outcome.ReplyKind.{ReplyKind}
 use Rattle.mock.specs.Effects.{flashAfter, bufferAfter, replyBytes}
 use Rattle.mock.specs.declared.device.MockState.{MockState}
-use Rattle.mock.specs.Device.{Call, withSession, writeBulk, readBulk}
-use Rattle.budget.specs.Run.{Turned, tells, Ran, follow, runs}
-use Rattle.turns.specs.Turn.{UsbState, usbState, onward, wrote, bufferFor, landed, gives, received, got, transfers, after, usbTurn}
+use Rattle.mock.specs.Device.{Call, withSession, writeBulk}
+use Rattle.budget.specs.Run.{tells, follow, runs}
+use Rattle.turns.specs.Turn.{usbState, onward, wrote, bufferFor, landed, gives, received, got, transfers, after, usbTurn}
 use Rattle.runner.specs.Run.{sectorData}
 use Rattle.landing.proofs.Idle.{landed-long}
 use Rattle.landing.proofs.Calls.{asCall, writes-as, reads-as}
 use Rattle.landing.proofs.Answered.{answered}
-use Rattle.landing.proofs.Begins.{operationRun, Standing, long-left, awaiting, awaits}
+use Rattle.landing.proofs.Stands.{Standing}
+use Rattle.landing.proofs.Begins.{operationRun, long-left, awaiting, awaits}
 
 module _ (k : Kind) (c : CommandBlock) (device : MockState) (flash bytes : List ℕ) (store sectors : ℕ) (stands : Standing device flash store sectors)
     (fits : BlockFits c) (enough : sectorData k (c .«transfer_length») ≤ length bytes) (some : c .«transfer_length» ≡ 0 → ⊥) where

@@ -1,12 +1,11 @@
 -- What each operation ends in from its start, at a device with no transaction that is lent a flash of whole sectors and its store: a reply, 53, 54 or 57.
 -- Assumes nothing.
-use Prim.Native.Nat.{ℕ, zero, suc, _*_, _/_, _-_, _<_, _≤_, _^_, min}
+use Prim.Native.Nat.{ℕ, suc, _*_, _/_, _<_, _≤_, _^_, min}
 use mathlib.Core.Path.{_≡_, refl, ap, sym, _∙_}
-use mathlib.Core.Bool.{Bool, true, false, not}
+use mathlib.Core.Bool.{true, false}
 use mathlib.Core.List.{List, [], _∷_, _++_}
 use native.Mathlib.Nat.{sub-zero}
 use native.Mathlib.Omega.{arith}
-use lib.Dec.{eqb}
 use lib.ListN.{length, take, drop, replicate}
 use lib.Seq.{take-at}
 use borrow.Author.Tests.{eq-eqb}
@@ -22,7 +21,6 @@ use Rattle.codes.specs.declared.Direction.{Direction}
 use Rattle.codes.specs.declared.Direction.the-variants.{In, Out}
 use Rattle.codes.specs.declared.ResetOpcode.{ResetOpcode}
 use Rattle.codes.specs.declared.StorageIndex.{StorageIndex}
-use Rattle.codes.specs.Reading.{resetOf}
 use Rattle.codes.proofs.Back.{reset-back}
 use Rattle.block.specs.Sector.{sectorSize}
 use Rattle.protocol.specs.declared.CommandBlock.{CommandBlock}
@@ -36,7 +34,7 @@ use Rattle.finish.specs.declared.Kind.the-variants as kind
 use Rattle.steps.specs.declared.IOBytes.the-variants as io
 use Rattle.steps.specs.Record.{ioOf}
 use Rattle.answer.specs.Flash.{fitsIn}
-use Rattle.transaction.specs.Turn.{Turn, refuses, done, hasCode, isErase, isIn, isOut, movedBy, replySize}
+use Rattle.transaction.specs.Turn.{refuses, done, hasCode, isErase, isIn, isOut, movedBy, replySize}
 use Rattle.transaction.specs.Table.{rangeOf, sectorTurn, storedReset, zeroLengthTurn, startTurn, writeIoTurn, replyTurn, codeTurn, readIoTurn}
 use Rattle.transaction.specs.declared.session.CommandState.the-variants.{Status}
 use Rattle.transaction.specs.declared.session.LastReset.{LastReset}
@@ -49,9 +47,10 @@ use Rattle.mock.specs.Config as config
 use Rattle.mock.specs.Effects.{replyBytes}
 use Rattle.mock.specs.declared.config.MockDeviceConfig.{MockDeviceConfig}
 use Rattle.mock.specs.declared.device.MockState.{MockState}
-use Rattle.budget.specs.Run.{End, tells}
+use Rattle.budget.specs.Run.{tells}
 use Rattle.runner.specs.Run.{sectorData}
-use Rattle.landing.proofs.Begins.{operationRun, Standing, refused-at-once, done-at-once}
+use Rattle.landing.proofs.Stands.{Standing}
+use Rattle.landing.proofs.Begins.{operationRun, refused-at-once, done-at-once}
 use Rattle.landing.proofs.Moved.{inband-refused, inband-answered, read-refused, read-answered, write-refused, write-answered}
 
 -- a configuration whose replies are as long as the protocol has them, as the Rust's default is
