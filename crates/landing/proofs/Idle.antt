@@ -59,10 +59,13 @@ landed-long asked.Inband bytes lent = omega arith
 landed-long asked.Sectors bytes lent = simp (length-append, length-drop) (omega arith)
 landed-long asked.Status bytes lent = omega arith
 
--- the command is never followed by the finish
+-- the data is followed by the status, and the command by either
+status-first : operation.CommandStatus ≡ operation.Finish → ⊥
+status-first e = let z : _≡_ {A = ℕ} 0 1 = cc in omega arith
+
 not-yet : (size : ℕ) → afterCommand size ≡ operation.Finish → ⊥
 unfolding afterCommand
-not-yet size = by-test (λ (o : Operation). o ≡ operation.Finish → ⊥) (eqb size 0) (λ t e. let z : _≡_ {A = ℕ} 0 1 = cc in omega arith) (λ t e. let z : _≡_ {A = ℕ} 0 1 = cc in omega arith)
+not-yet size = by-test (λ (o : Operation). o ≡ operation.Finish → ⊥) (eqb size 0) (λ t. status-first) (λ t e. let z : _≡_ {A = ℕ} 0 1 = cc in omega arith)
 
 module _ (device : MockState) (flash sectors : ℕ) (legal : flashSectors flash ≡ given sectors) where
   abbrev Turns : Turned Reply UsbState → Type 0
@@ -141,7 +144,7 @@ module _ (device : MockState) (flash sectors : ℕ) (legal : flashSectors flash 
   module _ (s : UsbState) (g : Going device flash s) where
     inband-turns : Turns (after (ioStep io.Inband (s .operation) (length (s .«data»))) s)
     unfolding ioStep transfers
-    inband-turns = read-turns s g (turned (s .operation) operation.CommandStatus asked.Inband) (g .enough) asked.Inband (inbandLength (s .operation)) (λ e. absurd (let z : _≡_ {A = ℕ} 0 1 = cc in omega arith))
+    inband-turns = read-turns s g (turned (s .operation) operation.CommandStatus asked.Inband) (g .enough) asked.Inband (inbandLength (s .operation)) (λ e. absurd (status-first e))
 
     io-turns : (k : Kind) → s .operation .kind ≡ k → Turns (after (ioStep (ioOf k) (s .operation) (length (s .«data»))) s)
     unfolding transfers sectorData
@@ -154,11 +157,11 @@ module _ (device : MockState) (flash sectors : ℕ) (legal : flashSectors flash 
     io-turns kind.Read e =
         let enough : transferLength (s .operation) ≤ length (s .«data») = rw e at (g .enough) in
         rw (data-read (s .operation) (length (s .«data»)) enough)
-        (read-turns s g (turned (s .operation) operation.CommandStatus asked.Sectors) (g .enough) asked.Sectors (transferLength (s .operation)) (λ f. absurd (let z : _≡_ {A = ℕ} 0 1 = cc in omega arith)))
+        (read-turns s g (turned (s .operation) operation.CommandStatus asked.Sectors) (g .enough) asked.Sectors (transferLength (s .operation)) (λ f. absurd (status-first f)))
     io-turns kind.Write e =
         let enough : transferLength (s .operation) ≤ length (s .«data») = rw e at (g .enough) in
         rw (data-write (s .operation) (length (s .«data»)) enough)
-        (write-turns s g (turned (s .operation) operation.CommandStatus asked.Nothing) (g .enough) (take (transferLength (s .operation)) (s .«data»)) (λ f. absurd (let z : _≡_ {A = ℕ} 0 1 = cc in omega arith)))
+        (write-turns s g (turned (s .operation) operation.CommandStatus asked.Nothing) (g .enough) (take (transferLength (s .operation)) (s .«data»)) status-first)
 
     finish-turns : (t : Told Reply) → s .device .«current_command» ≡ None
         → Turns (transfers (finishedTold t) [] (usbState (turned (s .operation) operation.CommandBlock asked.Nothing) (s .device) (s .flash) (s .«data»)))

@@ -27,7 +27,7 @@ use Rattle.protocol.specs.declared.CommandBlock.{CommandBlock}
 use Rattle.protocol.specs.Commands.{replyCommand, opcodeCommand, sectorCommand, chipInfoCommand, flashIdCommand, flashInfoCommand, capabilityCommand, storageCommand, eraseLbaCommand, eraseForceCommand, readLbaCommand, writeLbaCommand, resetCommand, switchCommand}
 use Rattle.protocol.proofs.Trips.{BlockFits}
 use Rattle.finish.specs.Reply.{Reply, chipInfo, flashId, flashInfo, capability, nothing, moved}
-use Rattle.finish.specs.Finish.{replyOf}
+use Rattle.finish.specs.Finish.{sectorReply, replyOf}
 use Rattle.finish.proofs.Cases.{sectors-moved}
 use Rattle.finish.specs.declared.Kind.{Kind}
 use Rattle.finish.specs.declared.Kind.the-variants as kind
@@ -146,13 +146,20 @@ module _ (device : MockState) (flash bytes : List ℕ) (store sectors : ℕ) (st
       done-at-once kind.Nothing c device flash bytes store sectors stands (opcode-fits (c .«cd_code») (c .«cd_opcode»)) (omega arith) (reset.Some opcode) effect.Nothing refl
       (ap (λ (t : Told ResetOpcode). storedReset t (device .«last_reset») c) (reset-back opcode))
 
+  unknown-ends : (k : Kind) (c : CommandBlock) → BlockFits c → sectorData k (c .«transfer_length») ≤ length bytes
+      → startTurn (given c) (device .«last_reset») sectors ≡ refuses (device .«last_reset») 53 (codeNumber (c .«cd_code») ∷ [])
+      → operationRun k c device flash bytes store .end ≡ tells (refused 53 (codeNumber (c .«cd_code») ∷ []))
+  unfolding refuses
+  unknown-ends k c fits enough first =
+      let values = codeNumber (c .«cd_code») ∷ [] in
+      refused-at-once k c device flash bytes store sectors stands fits enough (refuses (device .«last_reset») 53 values) first 53 values refl
+
   pub switch-ends : (index : StorageIndex)
       → operationRun kind.Nothing (switchCommand tag index) device flash bytes store .end ≡ tells (refused 53 (codeNumber SwitchStorage ∷ []))
-  unfolding sectorData startTurn zeroLengthTurn isErase hasCode refuses
+  unfolding sectorData startTurn zeroLengthTurn isErase hasCode
   switch-ends index =
       let c = switchCommand tag index in
-      refused-at-once kind.Nothing c device flash bytes store sectors stands (opcode-fits (c .«cd_code») (c .«cd_opcode»)) (omega arith)
-      (refuses (device .«last_reset») 53 (codeNumber SwitchStorage ∷ [])) refl 53 (codeNumber SwitchStorage ∷ []) refl
+      unknown-ends kind.Nothing c (opcode-fits (c .«cd_code») (c .«cd_opcode»)) (omega arith) refl
 
   -- SECTORS
   module _ (first count : ℕ) (low : first < 256 ^ 4) (few : count < 256 ^ 2) where
@@ -182,21 +189,24 @@ module _ (device : MockState) (flash bytes : List ℕ) (store sectors : ℕ) (st
 
     -- reads and writes of some sectors ..
     module _ (some : 0 < count) (enough : count * sectorSize ≤ length bytes) where
-      all-moved : (inband : List ℕ) → replyOf kind.Read (count * sectorSize) 0 inband ≡ given (moved (record { 0 = count * sectorSize }))
-      unfolding replyOf
-      all-moved inband =
-          sectors-moved (count * sectorSize) 0 (omega arith) ∙ ap (λ (n : ℕ). given (moved (record { 0 = n }))) (sub-zero (count * sectorSize))
+      by-fit : (k : Kind) (c : CommandBlock) → (fitsIn sectors first count ≡ true → operationRun k c device flash bytes store .end ≡ tells (sectorReply (count * sectorSize) 0))
+          → (fitsIn sectors first count ≡ false → operationRun k c device flash bytes store .end ≡ tells (refused 57 []))
+          → operationRun k c device flash bytes store .end ≡ tells (pick (fitsIn sectors first count) (given (moved (record { 0 = count * sectorSize }))) (refused 57 []))
+      by-fit k c within out =
+          by-test (λ (x : Told Reply). operationRun k c device flash bytes store .end ≡ tells x) (fitsIn sectors first count)
+          (λ e. within e ∙ ap tells (sectors-moved (count * sectorSize) 0 (omega arith) ∙ ap (λ (n : ℕ). given (moved (record { 0 = n }))) (sub-zero (count * sectorSize))))
+          out
 
       pub read-ends : operationRun kind.Read (readLbaCommand tag first count) device flash bytes store .end
           ≡ tells (pick (fitsIn sectors first count) (given (moved (record { 0 = count * sectorSize }))) (refused 57 []))
-      unfolding sectorData readIoTurn codeTurn orRefuse hasCode isIn
+      unfolding sectorData readIoTurn codeTurn orRefuse hasCode isIn replyOf
       read-ends =
           let c = readLbaCommand tag first count in
           let fits = sector-block-fits (count * sectorSize) In ReadLBA (omega arith) in
-          by-test (λ (x : Told Reply). operationRun kind.Read c device flash bytes store .end ≡ tells x) (fitsIn sectors first count)
-          (λ e. read-answered kind.Read c device flash bytes store sectors stands fits enough (λ z. omega arith) enough refl (movedBy In (rangeOf c)) (sector-fits (device .«last_reset») c In sectors e)
-          ∙ ap tells (all-moved (replicate 16 0)))
-          (λ e. read-refused kind.Read c device flash bytes store sectors stands fits enough (λ z. omega arith) enough refl 57 [] (sector-out (device .«last_reset») c In sectors e))
+          let last = device .«last_reset» in
+          by-fit kind.Read c
+          (λ e. read-answered kind.Read c device flash bytes store sectors stands fits enough (λ z. omega arith) enough refl (movedBy In (rangeOf c)) (sector-fits last c In sectors e))
+          (λ e. read-refused kind.Read c device flash bytes store sectors stands fits enough (λ z. omega arith) enough refl 57 [] (sector-out last c In sectors e))
 
       pub write-ends : operationRun kind.Write (writeLbaCommand tag first count) device flash bytes store .end
           ≡ tells (pick (fitsIn sectors first count) (given (moved (record { 0 = count * sectorSize }))) (refused 57 []))
@@ -204,23 +214,17 @@ module _ (device : MockState) (flash bytes : List ℕ) (store sectors : ℕ) (st
       write-ends =
           let c = writeLbaCommand tag first count in
           let fits = sector-block-fits (count * sectorSize) Out WriteLBA (omega arith) in
-          by-test (λ (x : Told Reply). operationRun kind.Write c device flash bytes store .end ≡ tells x) (fitsIn sectors first count)
-          (λ e. write-answered kind.Write c device flash bytes store sectors stands fits enough (λ z. omega arith) enough refl (movedBy Out (rangeOf c)) (sector-fits (device .«last_reset») c Out sectors e)
-          ∙ ap tells (all-moved (replicate 16 0)))
-          (λ e. write-refused kind.Write c device flash bytes store sectors stands fits enough (λ z. omega arith) enough refl 57 [] (sector-out (device .«last_reset») c Out sectors e))
+          let last = device .«last_reset» in
+          by-fit kind.Write c
+          (λ e. write-answered kind.Write c device flash bytes store sectors stands fits enough (λ z. omega arith) enough refl (movedBy Out (rangeOf c)) (sector-fits last c Out sectors e))
+          (λ e. write-refused kind.Write c device flash bytes store sectors stands fits enough (λ z. omega arith) enough refl 57 [] (sector-out last c Out sectors e))
 
   -- .. and of none, which have no data and so are unknown
   module _ (first : ℕ) (low : first < 256 ^ 4) where
     pub read-none-ends : operationRun kind.Read (readLbaCommand tag first 0) device flash bytes store .end ≡ tells (refused 53 (codeNumber ReadLBA ∷ []))
-    unfolding sectorData startTurn zeroLengthTurn isErase hasCode refuses
-    read-none-ends =
-        let c = readLbaCommand tag first 0 in
-        refused-at-once kind.Read c device flash bytes store sectors stands (sector-block-fits first 0 low (omega arith) 0 In ReadLBA (omega arith)) (omega arith)
-        (refuses (device .«last_reset») 53 (codeNumber ReadLBA ∷ [])) refl 53 (codeNumber ReadLBA ∷ []) refl
+    unfolding sectorData startTurn zeroLengthTurn isErase hasCode
+    read-none-ends = unknown-ends kind.Read (readLbaCommand tag first 0) (sector-block-fits first 0 low (omega arith) 0 In ReadLBA (omega arith)) (omega arith) refl
 
     pub write-none-ends : operationRun kind.Write (writeLbaCommand tag first 0) device flash bytes store .end ≡ tells (refused 53 (codeNumber WriteLBA ∷ []))
-    unfolding sectorData startTurn zeroLengthTurn isErase hasCode refuses
-    write-none-ends =
-        let c = writeLbaCommand tag first 0 in
-        refused-at-once kind.Write c device flash bytes store sectors stands (sector-block-fits first 0 low (omega arith) 0 Out WriteLBA (omega arith)) (omega arith)
-        (refuses (device .«last_reset») 53 (codeNumber WriteLBA ∷ [])) refl 53 (codeNumber WriteLBA ∷ []) refl
+    unfolding sectorData startTurn zeroLengthTurn isErase hasCode
+    write-none-ends = unknown-ends kind.Write (writeLbaCommand tag first 0) (sector-block-fits first 0 low (omega arith) 0 Out WriteLBA (omega arith)) (omega arith) refl
