@@ -1,3 +1,5 @@
--- `Fitting` shows that what is asked for is within the bounds of 43, `Unique` that the contract allows one answer.
+-- `ByKind` goes through the kinds, `Fitting` has the bounds of what is asked for, `Refusals` the numbers of a refused block, `Unique` that the contract allows one answer.
+pub mod ByKind
 pub mod Fitting
+pub mod Refusals
 pub mod Unique

@@ -8,6 +8,7 @@ use denote.Ref.{now}
 use Rattle.wire.specs.Told.{Told}
 use Rattle.card.specs.declared.Request.{Request}
 use Rattle.card.specs.Reading.{cardTold}
+use Rattle.card.proofs.ByKind.{passed-rules}
 use Rattle.card.proofs.Fitting.{asked-fits}
 use Rattle.verdict.specs.Deal.{head, DealMeets}
 use Rattle.deck.specs.Dealing.{dealAsked, dealBlock}
@@ -27,7 +28,7 @@ unfolding cardTold
 requires c κs =
     let a = c .before .before .before .before .before .before .before .before .before .args in
     let card = c .before .before .before .before .before .read-card in
-    asked-fits (a .tag) (now (a .block)) _ (sym (card .ensures) ∙ ap cardTold (c .before .before .before .card .given .1))
+    asked-fits (now (a .block)) _ (passed-rules (a .tag) (now (a .block)) _ (sym (card .ensures) ∙ ap cardTold (c .before .before .before .card .given .1)))
 
 returns-2 : tie.Need-returns-2
 returns-2 c =
