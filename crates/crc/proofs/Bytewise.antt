@@ -38,12 +38,12 @@ unfolding rows byteStep bitsStep bitStep
 low-moves = rows-same (λ (i : ℕ). byteStep i 0) (λ (i : ℕ). i * 256) 256 refl
 
 -- a byte that meets itself in the high half is gone
-meets-itself : (b : ℕ) → b < 256 → byteStep (b * 256) b ≡ 0
+pub meets-itself : (b : ℕ) → b < 256 → byteStep (b * 256) b ≡ 0
 unfolding rows byteStep bitsStep bitStep
 meets-itself = rows-same (λ (i : ℕ). byteStep (i * 256) i) (λ (i : ℕ). 0) 256 refl
 
 -- the high half and the byte count only by their xor
-high-half : (h b : ℕ) → b < 256 → byteStep (h * 256) b ≡ entry (bitXor h b)
+pub high-half : (h b : ℕ) → b < 256 → byteStep (h * 256) b ≡ entry (bitXor h b)
 unfolding entry
 high-half h b hb =
     ap₂ byteStep (ap (λ (x : ℕ). x * 256) (sym (xor-twice h b)) ∙ xor-shl (bitXor h b) b 8) (sym (xor-zero-l b))

@@ -4,7 +4,7 @@ use Prim.Native.Nat.{ℕ, zero, suc, _+_, _*_, _/_, _%_, _^_, _<_}
 use mathlib.Core.Path.{_≡_, refl, ap, sym, _∙_}
 use mathlib.Core.List.{List, [], _∷_, _++_}
 use native.Mathlib.Omega.{arith}
-use lib.ListN.{length}
+use lib.ListN.{length, take, drop, take-append-drop}
 use lib.Bits.{bitXor, xor-lt}
 use Rattle.crc.specs.Check.{polynomial, bitStep, bitsStep, byteStep, crcOver, check}
 use Rattle.crc.proofs.Linear.{byte-linear}
@@ -17,6 +17,10 @@ pub over-append : (c : ℕ) (xs ys : List ℕ) → crcOver c (xs ++ ys) ≡ crcO
 unfolding crcOver
 over-append c [] ys = refl
 over-append c (x ∷ xs) ys = over-append (byteStep c x) xs ys
+
+-- in two parts, cut anywhere
+pub over-split : (c n : ℕ) (xs : List ℕ) → crcOver (crcOver c (take n xs)) (drop n xs) ≡ crcOver c xs
+over-split c n xs = sym (over-append c (take n xs) (drop n xs)) ∙ ap (crcOver c) (take-append-drop n xs)
 
 bit-lt : (c b : ℕ) → bitStep c b < 2 ^ 16
 unfolding bitStep

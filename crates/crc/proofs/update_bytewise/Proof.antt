@@ -9,8 +9,8 @@ use lib.ListN.{length, drop, drop-of-length-le}
 use lib.Seq.{drop-cons}
 use borrow.Author.Needs.{needs}
 use Rattle.crc.specs.Check.{crcOver}
-use Rattle.crc.proofs.update.Statement.{statement}
-use Rattle.crc.proofs.update.Tie as tie
+use Rattle.crc.proofs.update_bytewise.Statement.{statement}
+use Rattle.crc.proofs.update_bytewise.Tie as tie
 
 abbrev Inv-loop : tie.InvT-loop
 Inv-loop crc bytes t n c₀ i₀ c i = (i ≤ length bytes) × (crcOver c (drop i bytes) ≡ crcOver crc bytes)
@@ -39,8 +39,8 @@ returns c =
     let none : length s ≤ c .before .loop .i = omega arith in
     rw (drop-of-length-le s none) at (c .before .loop .inv .1)
 
-pub update-spec : {M : Type 1} → statement M
-update-spec =
+pub update-bytewise-spec : {M : Type 1} → statement M
+update-bytewise-spec =
     tie.close
     (tie.spec
     Inv-loop
