@@ -5,6 +5,7 @@ ghost use mathlib.Core.Bool.{true, false};
 ghost use Prim.Native.Nat.{_+_, _≤_, min};
 ghost use lib.ListN.{length, take};
 ghost use Rattle.wire.specs.Told.{given};
+ghost use Rattle.transfer.specs.Moves.{register};
 ghost use Rattle.transfer.specs.Does.{Meets};
 ghost use Rattle.maskrom.specs.Answers.{control, partTold, stepTold};
 ghost use Rattle.maskrom.specs.PartWise.{fresh, waiting, withBlock, holding, parted, partStep, asks, withMoved, closedWith, closeStep};
@@ -305,6 +306,16 @@ fn block_of(bytes: &[u8]) -> [u8; 4096]
     block
 }
 
+// The register over a chunk, in either form of the check.
+fn register_over(bytewise: bool, checked: bool, crc: u16, chunk: &[u8]) -> u16
+    ensures { λ r. ⌜ r ≡ register checked crc (now (chunk .entry)) ⌝ }
+{
+    if bytewise {
+        return transfer::covered_bytewise(checked, crc, chunk);
+    }
+    transfer::covered(checked, crc, chunk)
+}
+
 impl WholeUpload {
     fn moved_on(self, n: usize, to: Moved) -> WholeUpload
         requires { ⌜ self .taken + n ≤ 4294967295 ⌝ }
@@ -327,13 +338,13 @@ impl WholeUpload {
         WholeStepped { step, next: self }
     }
 
-    fn send_on(self, chunk: &[u8], out: &mut [u8]) -> WholeStepped
+    fn send_on(self, bytewise: bool, chunk: &[u8], out: &mut [u8]) -> WholeStepped
         requires { ⌜ (length (now chunk) ≤ 4096) × (self .taken + length (now chunk) ≤ 4294967295) ⌝ }
         ensures { λ r. ⌜ Meets (stepTold (r .step)) (r .next) (now (out .entry)) (now (out .exit)) self (sendsOn self (now (chunk .entry)) (length (now (out .entry)))) ⌝ }
     {
         let n = chunk.len();
         let steps = self.steps;
-        let crc = transfer::covered(self.checked, self.crc, chunk);
+        let crc = register_over(bytewise, self.checked, self.crc, chunk);
         let block = block_of(chunk);
         let sent = transfer::send(steps, self.checked, crc, block, n, out);
         let Sent::Moved(to) = sent else {
@@ -343,8 +354,7 @@ impl WholeUpload {
         self.moved_on(n, to).after_step(step)
     }
 
-    // The next transfer of the image, or the finish.
-    pub fn step(self, image: &[u8], out: &mut [u8]) -> WholeStepped
+    fn step_by(self, bytewise: bool, image: &[u8], out: &mut [u8]) -> WholeStepped
         ensures { λ r. ⌜ Meets (stepTold (r .step)) (r .next) (now (out .entry)) (now (out .exit)) self (wholeStep self (now (image .entry)) (length (now (out .entry)))) ⌝ }
     {
         if out.len() < BLOCK {
@@ -357,6 +367,20 @@ impl WholeUpload {
         let steps = self.steps;
         let from = least(self.taken as usize, length);
         let end = from + chunk_size(steps, length - from);
-        self.send_on(&image[from..end], out)
+        self.send_on(bytewise, &image[from..end], out)
+    }
+
+    // The next transfer of the image, or the finish.
+    pub fn step(self, image: &[u8], out: &mut [u8]) -> WholeStepped
+        ensures { λ r. ⌜ Meets (stepTold (r .step)) (r .next) (now (out .entry)) (now (out .exit)) self (wholeStep self (now (image .entry)) (length (now (out .entry)))) ⌝ }
+    {
+        self.step_by(false, image, out)
+    }
+
+    // The same by the byte-wise check, for a core with little stack.
+    pub fn step_bytewise(self, image: &[u8], out: &mut [u8]) -> WholeStepped
+        ensures { λ r. ⌜ Meets (stepTold (r .step)) (r .next) (now (out .entry)) (now (out .exit)) self (wholeStep self (now (image .entry)) (length (now (out .entry)))) ⌝ }
+    {
+        self.step_by(true, image, out)
     }
 }

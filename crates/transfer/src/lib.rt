@@ -47,6 +47,17 @@ pub fn covered(checked: bool, crc: u16, bytes: &[u8]) -> u16
     }
 }
 
+// The same, a byte at a time, for a core with little stack.
+pub fn covered_bytewise(checked: bool, crc: u16, bytes: &[u8]) -> u16
+    ensures { λ r. ⌜ r ≡ register checked crc (now (bytes .entry)) ⌝ }
+{
+    if checked {
+        crc::update_bytewise(crc, bytes)
+    } else {
+        crc
+    }
+}
+
 fn with_zero(block: [u8; 4096], n: usize) -> [u8; 4096]
     requires { ⌜ n + 1 ≤ 4096 ⌝ }
     ensures { λ r. ⌜ take (n + 1) r ≡ take n block ++ (0 ∷ []) ⌝ }

@@ -17,8 +17,8 @@ use Rattle.maskrom.specs.Answers.{differs, stepTold, Asks}
 use Rattle.maskrom.specs.Whole.{most, chunk, sendsOn}
 use Rattle.maskrom.proofs.Lists.{part-of}
 use Rattle.maskrom.proofs.Cases.{most-block, whole-20, whole-27, whole-sends}
-use Rattle.maskrom.proofs.WholeUpload.step.Statement.{statement}
-use Rattle.maskrom.proofs.WholeUpload.step.Tie as tie
+use Rattle.maskrom.proofs.WholeUpload.step_by.Statement.{statement}
+use Rattle.maskrom.proofs.WholeUpload.step_by.Tie as tie
 
 returns : tie.Need-returns
 unfolding stepTold
@@ -73,13 +73,13 @@ returns-3 c =
     let b = k .before .before .before in
     let a = b .before .before .before .before .before .args in
     let r = c .before .before .send-on in
-    subst (λ (step : Told (Does Asks WholeUpload)). Meets (stepTold (r .result .step)) (r .result .next) (now (a .out)) (r .last .1 .1 .0) (a .self) step)
+    subst (λ (step : Told (Does Asks WholeUpload)). Meets (stepTold (r .result .step)) (r .result .next) (now (a .out)) (r .last .1 .1 .1 .0) (a .self) step)
     (ap (λ (l : List ℕ). sendsOn (a .self) l (length (now (a .out)))) (lent k)
     ∙ sym (whole-sends (a .self) (now (a .image)) (length (now (a .out))) (b .before .before .if1 .left) (b .if2 .left)))
     (r .ensures)
 
-pub step-spec : {M : Type 1} → statement M
-step-spec =
+pub step-by-spec : {M : Type 1} → statement M
+step-by-spec =
     tie.close
     (tie.spec
     (λ c κs. search needs)
