@@ -18,10 +18,8 @@ use Rattle.finish.specs.declared.Kind.the-variants as kind
 use Rattle.steps.specs.declared.UsbOperation.{UsbOperation}
 use Rattle.steps.specs.Record.{fresh}
 use Rattle.operation.specs.Start.{sectorsOr0}
-use Rattle.transfer.specs.Does.{after}
 use Rattle.maskrom.specs.declared.WholeUpload.{WholeUpload}
-use Rattle.maskrom.specs.Answers.{longest}
-use Rattle.maskrom.specs.Whole.{freshWhole, startStep}
+use Rattle.maskrom.specs.Whole.{freshWhole}
 use Rattle.turns.specs.Turn.{isWrite, lentTo}
 use Rattle.mock.specs.declared.device.MockState.{MockState}
 use Rattle.card.specs.declared.Request.{Request}
@@ -55,12 +53,6 @@ sectors-exact count h =
 pub written-from : (op : UsbOperation) (command : CommandBlock) (bytes : List ℕ) → op ≡ fresh kind.Write command → lentTo (op .kind) bytes [] ≡ bytes
 unfolding isWrite
 written-from op command bytes e = ap (λ (o : UsbOperation). lentTo (o .kind) bytes []) e
-
--- an image that is not too long starts fresh
-pub starts-fresh : (area : ℕ) (checked : Bool) (image : List ℕ) → length image ≤ longest
-    → after (freshWhole area checked 0) (startStep area checked image) ≡ freshWhole area checked (length image)
-unfolding after startStep unless
-starts-fresh area checked image h = rw (le-ltb longest (length image) h)
 
 pub as-asked : (r : Dealt) (flash store : List ℕ) (op op′ : UsbOperation) (bytes bytes′ : List ℕ) (h : Head) → op ≡ op′ → bytes ≡ bytes′
     → DealMeets r flash store (operate op bytes h) → DealMeets r flash store (operate op′ bytes′ h)

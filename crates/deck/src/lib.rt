@@ -29,7 +29,6 @@ use verdict::loaded;
 use verdict::operated;
 use verdict::turned_away;
 ghost use mathlib.Core.Path.{_≡_};
-ghost use mathlib.Core.Bool.{true, false};
 ghost use mathlib.Core.List.{[]};
 ghost use Prim.Native.Nat.{_≤_, _*_};
 ghost use lib.ListN.{length, replicate};
@@ -37,6 +36,8 @@ ghost use Rattle.wire.specs.Told.{number};
 ghost use Rattle.protocol.specs.Commands.{readLbaCommand, writeLbaCommand};
 ghost use Rattle.finish.specs.declared.Kind.the-variants as kind;
 ghost use Rattle.steps.specs.Record.{fresh};
+ghost use Rattle.transfer.specs.Does.{after};
+ghost use Rattle.maskrom.specs.Whole.{freshWhole, startStep};
 ghost use Rattle.card.specs.Reading.{cardTold, Fits};
 ghost use Rattle.verdict.specs.Deal.{head, DealMeets};
 ghost use Rattle.deck.specs.Dealing.{room, operate, load, loadOf, carryOut, dealBlock};
@@ -121,25 +122,20 @@ fn upload(
     loaded(run_whole_upload(upload, device, flash, store, image))
 }
 
-fn upload_checked(
-    area: u16,
-    length: u32,
-    fill: u8,
-    device: MockState,
-    flash: &[u8],
-    store: &mut [u8],
-) -> Dealt
-    requires { ⌜ length ≤ 8192 ⌝ }
-    ensures { λ r. ⌜ DealMeets r (now (flash .entry)) (now (store .exit)) (load area true (replicate length fill) (head device (now (flash .entry)) (now (store .entry)))) ⌝ }
+fn start_upload(checked: bool, area: u16, image: &[u8]) -> WholeUpload
+    ensures { λ r. ⌜ r ≡ after (freshWhole area checked 0) (startStep area checked (now (image .entry))) ⌝ }
 {
-    let n = length as usize;
-    let image = filled(fill);
-    let start = write_area(area, &image[..n]);
-    let fresh = start.upload;
-    upload(fresh, device, flash, store, &image[..n])
+    if checked {
+        let start = write_area(area, image);
+        return start.upload;
+    }
+    let start = write_area_no_crc(area, image);
+    start.upload
 }
 
-fn upload_unchecked(
+// An image of one byte over and over.
+fn upload_filled(
+    checked: bool,
     area: u16,
     length: u32,
     fill: u8,
@@ -148,12 +144,11 @@ fn upload_unchecked(
     store: &mut [u8],
 ) -> Dealt
     requires { ⌜ length ≤ 8192 ⌝ }
-    ensures { λ r. ⌜ DealMeets r (now (flash .entry)) (now (store .exit)) (load area false (replicate length fill) (head device (now (flash .entry)) (now (store .entry)))) ⌝ }
+    ensures { λ r. ⌜ DealMeets r (now (flash .entry)) (now (store .exit)) (load area checked (replicate length fill) (head device (now (flash .entry)) (now (store .entry)))) ⌝ }
 {
     let n = length as usize;
     let image = filled(fill);
-    let start = write_area_no_crc(area, &image[..n]);
-    let fresh = start.upload;
+    let fresh = start_upload(checked, area, &image[..n]);
     upload(fresh, device, flash, store, &image[..n])
 }
 
@@ -187,10 +182,10 @@ fn deal_request(
         Request::Storage => command(storage(tag), device, flash, store),
         Request::SwitchStorage(index) => command(switch_storage(tag, index), device, flash, store),
         Request::WriteArea(area, length, fill) => {
-            upload_checked(area, length, fill, device, flash, store)
+            upload_filled(true, area, length, fill, device, flash, store)
         }
         Request::WriteAreaNoCrc(area, length, fill) => {
-            upload_unchecked(area, length, fill, device, flash, store)
+            upload_filled(false, area, length, fill, device, flash, store)
         }
     }
 }
