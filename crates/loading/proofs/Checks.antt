@@ -10,6 +10,7 @@ use borrow.Author.Tests.{eq-eqb, ne-eqb}
 use Rattle.wire.specs.Told.{Told, given, refused}
 use Rattle.wire.specs.Rules.{Rule, rule}
 use Rattle.lent.specs.Outcome.{orRefuse}
+use Rattle.lent.proofs.Outcome.{unmet-first, met-first}
 use Rattle.block.specs.Signature.{noSignature}
 use Rattle.block.specs.Sector.{sectorSize}
 use Rattle.maskrom.specs.Answers.{differs}
@@ -24,7 +25,6 @@ use Rattle.loading.specs.declared.LoadAnswer.the-variants as answer
 use Rattle.loading.specs.declared.LoadRun.{LoadRun}
 use Rattle.loading.specs.Load.{LoadState, loadState, loadTurn, loadRules, unstarted, loadRun}
 use Rattle.loading.specs.Answers.{stopTold, answerEnd, runBy, RunMeets}
-use Rattle.loading.proofs.Order.{unmet-first, met-first}
 
 -- a run that stops before its first step
 pub stopped : (stop : LoadStop) (s : LoadState) (n : ℕ) (values : List ℕ) → stopTold stop ≡ refused n values

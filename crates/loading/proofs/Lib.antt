@@ -2,6 +2,5 @@
 pub mod Sized
 pub mod Quiet
 pub mod Cases
-pub mod Order
 pub mod Checks
 pub mod Unique

@@ -9,9 +9,9 @@ use lib.Dec.{eqb, ltb}
 use lib.ListN.{length}
 use borrow.Author.Tests.{eq-eqb, ne-eqb, lt-ltb, le-ltb}
 use Rattle.wire.specs.Told.{Told, given, refused}
-use Rattle.wire.specs.Rules.{Rule, rule, pick, unless}
+use Rattle.wire.specs.Rules.{Rule, rule, pick}
 use Rattle.lent.specs.Outcome.{orRefuse}
-use Rattle.lent.proofs.Outcome.{on-test}
+use Rattle.lent.proofs.Outcome.{unmet-first, met-first}
 use Rattle.block.specs.Signature.{noSignature, signatureIn}
 use Rattle.block.specs.Sector.{sectorSize}
 use Rattle.protocol.specs.CommandMeets.{commandErrorNumber, commandErrorValues}
@@ -36,29 +36,6 @@ use Rattle.turns.specs.Answers.{stopTold, signatureTold, besideTold}
 use Rattle.runner.specs.declared.UsbRun.{UsbRun}
 use Rattle.runner.specs.Run.{sectorData, storeDiffers, runRules, unstarted, usbRun}
 use Rattle.runner.specs.Answers.{answerEnd, besideEnd, unstartedBy, RunMeets}
-
--- rules that are the first of more: a refusal by them is the refusal of all, and where they are met the rest decides
-unmet-first : {A B : Type 0} (refuse : ℕ → List ℕ → B) (rules more : List Rule) (value : A) (done : B) (n : ℕ) (values : List ℕ)
-    → unless rules (given value) ≡ refused n values → orRefuse refuse (rules ++ more) done ≡ refuse n values
-unfolding unless orRefuse
-unmet-first {A} refuse [] more value done n values e = absurd (let z : _≡_ {A = ℕ} 0 1 = cc in omega arith)
-unmet-first {A} refuse (r ∷ rules) more value done n values e =
-    on-test (r .broken)
-    (λ t.
-    let told : _≡_ {A = Told A} (refused (r .number) (r .values)) (refused n values) = rw t at e in
-    let m : r .number ≡ n = cc in
-    let w : r .values ≡ values = cc in
-    rw (t, m, w))
-    (λ f. let told : unless rules (given value) ≡ refused n values = rw f at e in rw f (unmet-first refuse rules more value done n values told))
-
-met-first : {A B : Type 0} (refuse : ℕ → List ℕ → B) (rules more : List Rule) (value other : A) (done : B)
-    → unless rules (given value) ≡ given other → orRefuse refuse (rules ++ more) done ≡ orRefuse refuse more done
-unfolding unless orRefuse
-met-first refuse [] more value other done e = refl
-met-first {A} refuse (r ∷ rules) more value other done e =
-    on-test (r .broken)
-    (λ t. let told : _≡_ {A = Told A} (refused (r .number) (r .values)) (given other) = rw t at e in absurd (let z : _≡_ {A = ℕ} 0 1 = cc in omega arith))
-    (λ f. let told : unless rules (given value) ≡ given other = rw f at e in rw f (met-first refuse rules more value other done told))
 
 inner-none : (e : CommandBlockParseError) → signatureTold 56 (commandErrorNumber e ∷ commandErrorValues e noSignature) ≡ noSignature
 unfolding signatureTold signatureBeside innerSignature signatureIn commandErrorNumber commandErrorValues
