@@ -47,10 +47,10 @@ use transaction::session::LastReset;
 
 // The current device: whether there is one, its record, and the lengths of its flash and store, which stand in buffers of their own.
 pub(crate) struct Device {
-    is_there: bool,
-    state: MockState,
-    flash: usize,
-    store: usize,
+    pub is_there: bool,
+    pub state: MockState,
+    pub flash: usize,
+    pub store: usize,
 }
 
 pub(crate) struct Stood {
@@ -62,7 +62,7 @@ fn with_answer(answer: Answer, device: Device) -> Stood {
     Stood { answer, device }
 }
 
-fn device_of(is_there: bool, state: MockState, flash: usize) -> Device {
+pub(crate) fn device_of(is_there: bool, state: MockState, flash: usize) -> Device {
     Device {
         is_there,
         state,

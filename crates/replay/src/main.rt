@@ -10,6 +10,7 @@ mod numbers;
 mod operations;
 mod out;
 mod replies;
+mod runs;
 mod told;
 mod uploads;
 
@@ -41,6 +42,8 @@ use names::SWR;
 use names::about_of;
 use operations::Current;
 use operations::Operated;
+use runs::Loaded;
+use runs::Ran;
 use told::Answer;
 use told::outside;
 use told::plain;
@@ -102,6 +105,32 @@ fn with_device(done: Stood, world: World) -> Answered {
     Answered { answer, world }
 }
 
+fn with_run(done: Ran, world: World) -> Answered {
+    let answer = done.answer;
+    let upload = world.upload;
+    let operation = done.current;
+    let device = done.device;
+    let world = World {
+        upload,
+        operation,
+        device,
+    };
+    Answered { answer, world }
+}
+
+fn with_load(done: Loaded, world: World) -> Answered {
+    let answer = done.answer;
+    let upload = done.upload;
+    let operation = world.operation;
+    let device = done.device;
+    let world = World {
+        upload,
+        operation,
+        device,
+    };
+    Answered { answer, world }
+}
+
 // Calls on nothing that stays.
 fn answer_plain(line: &[u8], name: Token, scratch: &mut [u8]) -> Answer {
     let letters = name.value;
@@ -147,6 +176,14 @@ fn answer_call(
                 world,
             )
         }
+        About::Run => with_run(
+            runs::run(line, name, world.operation, world.device, own, flash, store),
+            world,
+        ),
+        About::Load => with_load(
+            runs::load(line, name, world.upload, world.device, image, flash, store),
+            world,
+        ),
     }
 }
 

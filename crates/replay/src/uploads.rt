@@ -43,9 +43,9 @@ const TURNS: u64 = 1000000000;
 
 // The current upload: whether there is one, its record, and the length of its image, which stands in a buffer of its own.
 pub(crate) struct Upload {
-    is_there: bool,
-    record: WholeUpload,
-    length: usize,
+    pub is_there: bool,
+    pub record: WholeUpload,
+    pub length: usize,
 }
 
 pub(crate) struct Uploaded {
@@ -61,14 +61,17 @@ fn begun(area: u16, is_checked: bool, image: &[u8]) -> WholeStart {
     }
 }
 
+pub(crate) fn upload_of(is_there: bool, record: WholeUpload, length: usize) -> Upload {
+    Upload {
+        is_there,
+        record,
+        length,
+    }
+}
+
 pub(crate) fn no_upload() -> Upload {
     let begun = begun(0, false, b"");
-    let record = begun.upload;
-    Upload {
-        is_there: false,
-        record,
-        length: 0,
-    }
+    upload_of(false, begun.upload, 0)
 }
 
 fn answered(told: Told, upload: Upload) -> Uploaded {
@@ -78,12 +81,7 @@ fn answered(told: Told, upload: Upload) -> Uploaded {
 
 fn started(start: WholeStart, length: usize) -> Uploaded {
     let outcome = start.start;
-    let record = start.upload;
-    let upload = Upload {
-        is_there: true,
-        record,
-        length,
-    };
+    let upload = upload_of(true, start.upload, length);
     match outcome {
         UploadStart::Started => answered(none(0), upload),
         UploadStart::ImageTooLong => answered(none(25), no_upload()),
@@ -133,13 +131,8 @@ fn stepped(upload: Upload, image: &[u8], out: &mut [u8]) -> Uploaded {
     let record = upload.record;
     let done = record.step(image, out);
     let step = done.step;
-    let record = done.next;
     let answer = plain(step_told(step)).with_room(out.len());
-    let upload = Upload {
-        is_there: true,
-        record,
-        length: upload.length,
-    };
+    let upload = upload_of(true, done.next, upload.length);
     Uploaded { answer, upload }
 }
 
