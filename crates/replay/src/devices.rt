@@ -165,7 +165,8 @@ fn default(line: &[u8], name: Token, flash: &mut [u8], store: &[u8]) -> Stood {
 // DATA of exactly as many bytes as there is room for.
 fn array(line: &[u8], before: Token, scratch: &mut [u8], into: &mut [u8]) -> Token {
     let given = data(line, before, LEN, scratch);
-    copy(scratch, into);
+    let n = within(given.as_usize(), scratch);
+    copy(&scratch[..n], into);
     Token {
         value: 0,
         at: given.at,

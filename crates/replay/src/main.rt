@@ -149,7 +149,7 @@ fn answer_plain(line: &[u8], name: Token, scratch: &mut [u8]) -> Answer {
 fn answer_call(
     line: &[u8],
     world: World,
-    scratch: &mut [u8; 100000],
+    scratch: &mut [u8; 4194304],
     image: &mut [u8; 100000],
     own: &mut [u8; 65536],
     flash: &mut [u8; 65536],
@@ -218,7 +218,7 @@ fn answer_line(
     world: World,
     out: &mut [u8; 65536],
     at: usize,
-    scratch: &mut [u8; 100000],
+    scratch: &mut [u8; 4194304],
     image: &mut [u8; 100000],
     own: &mut [u8; 65536],
     flash: &mut [u8; 65536],
@@ -251,7 +251,7 @@ fn run(
     block: &mut [u8; 65536],
     line: &mut [u8; 4096],
     out: &mut [u8; 65536],
-    scratch: &mut [u8; 100000],
+    scratch: &mut [u8; 4194304],
     image: &mut [u8; 100000],
     own: &mut [u8; 65536],
     flash: &mut [u8; 65536],
@@ -288,7 +288,7 @@ fn main() {
     let mut block = [0u8; 65536];
     let mut line = [0u8; 4096];
     let mut out = [0u8; 65536];
-    let mut scratch = [0u8; 100000];
+    let mut scratch = [0u8; 4194304];
     let mut image = [0u8; 100000];
     let mut own = [0u8; 65536];
     let mut flash = [0u8; 65536];

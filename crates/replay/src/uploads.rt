@@ -1,4 +1,4 @@
-// "Uploads": the current upload, and whole and part-wise lists of transfers. An image has at most 100,000 bytes here.
+// "Uploads": the current upload, and whole and part-wise lists of transfers.
 use crate::data::copy;
 use crate::data::data;
 use crate::data::fill;
@@ -33,7 +33,10 @@ use maskrom::WholeUpload;
 use maskrom::write_area;
 use maskrom::write_area_no_crc;
 
+// the most of the current upload's image, and of an image whose list is asked for
 const IMAGE: u64 = 100000;
+
+const LISTED: u64 = 4194304;
 
 // the most of a part's size: the language's longest image
 const PART: u64 = 16777216;
@@ -238,11 +241,12 @@ fn list_answer(list: List) -> Answer {
 
 // The list of the image in the scratch's first `n` bytes; its text takes the image's place.
 fn all_of(area: u16, is_checked: bool, n: usize, scratch: &mut [u8]) -> Answer {
-    let mut text = [0u8; 4096];
+    let mut text = [0u8; 32768];
     let n = within(n, scratch);
     let begun = begun(area, is_checked, &scratch[..n]);
     let list = whole_list(begun.upload, &scratch[..n], &mut text);
-    copy(&text, scratch);
+    let end = within(list.at, &text);
+    copy(&text[..end], scratch);
     list_answer(list)
 }
 
@@ -250,7 +254,7 @@ fn all_of(area: u16, is_checked: bool, n: usize, scratch: &mut [u8]) -> Answer {
 pub(crate) fn all(line: &[u8], name: Token, scratch: &mut [u8]) -> Answer {
     let area = number(line, name, U16);
     let check = number(line, area, 1);
-    let given = data(line, check, IMAGE, scratch);
+    let given = data(line, check, LISTED, scratch);
     if !is_end(line, given) {
         return plain(outside());
     }
@@ -409,10 +413,11 @@ fn sizes(line: &[u8], count: Token) -> Token {
 }
 
 fn cut_of(line: &[u8], count: Token, start: Cut, n: usize, scratch: &mut [u8]) -> Answer {
-    let mut text = [0u8; 4096];
+    let mut text = [0u8; 32768];
     let n = within(n, scratch);
     let list = cut_list(line, count, count.value, &scratch[..n], &mut text, start);
-    copy(&text, scratch);
+    let end = within(list.at, &text);
+    copy(&text[..end], scratch);
     list_answer(list)
 }
 
@@ -423,7 +428,7 @@ pub(crate) fn cut_up(line: &[u8], name: Token, scratch: &mut [u8]) -> Answer {
     let count = number(line, check, 2047);
     let last = sizes(line, count);
     let start = new_cut(area.as_u16(), check.value == 1, count);
-    let given = data(line, last, IMAGE, scratch);
+    let given = data(line, last, LISTED, scratch);
     if last.value == 0 || !is_end(line, given) {
         return plain(outside());
     }
