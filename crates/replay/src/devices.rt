@@ -47,10 +47,10 @@ use transaction::session::LastReset;
 
 // The current device: whether there is one, its record, and the lengths of its flash and store, which stand in buffers of their own.
 pub(crate) struct Device {
-    is_there: bool,
-    state: MockState,
-    flash: usize,
-    store: usize,
+    pub is_there: bool,
+    pub state: MockState,
+    pub flash: usize,
+    pub store: usize,
 }
 
 pub(crate) struct Stood {
@@ -62,7 +62,7 @@ fn with_answer(answer: Answer, device: Device) -> Stood {
     Stood { answer, device }
 }
 
-fn device_of(is_there: bool, state: MockState, flash: usize) -> Device {
+pub(crate) fn device_of(is_there: bool, state: MockState, flash: usize) -> Device {
     Device {
         is_there,
         state,
@@ -165,7 +165,8 @@ fn default(line: &[u8], name: Token, flash: &mut [u8], store: &[u8]) -> Stood {
 // DATA of exactly as many bytes as there is room for.
 fn array(line: &[u8], before: Token, scratch: &mut [u8], into: &mut [u8]) -> Token {
     let given = data(line, before, LEN, scratch);
-    copy(scratch, into);
+    let n = within(given.as_usize(), scratch);
+    copy(&scratch[..n], into);
     Token {
         value: 0,
         at: given.at,

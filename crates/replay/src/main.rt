@@ -10,6 +10,7 @@ mod numbers;
 mod operations;
 mod out;
 mod replies;
+mod runs;
 mod told;
 mod uploads;
 
@@ -41,6 +42,8 @@ use names::SWR;
 use names::about_of;
 use operations::Current;
 use operations::Operated;
+use runs::Loaded;
+use runs::Ran;
 use told::Answer;
 use told::outside;
 use told::plain;
@@ -102,6 +105,32 @@ fn with_device(done: Stood, world: World) -> Answered {
     Answered { answer, world }
 }
 
+fn with_run(done: Ran, world: World) -> Answered {
+    let answer = done.answer;
+    let upload = world.upload;
+    let operation = done.current;
+    let device = done.device;
+    let world = World {
+        upload,
+        operation,
+        device,
+    };
+    Answered { answer, world }
+}
+
+fn with_load(done: Loaded, world: World) -> Answered {
+    let answer = done.answer;
+    let upload = done.upload;
+    let operation = world.operation;
+    let device = done.device;
+    let world = World {
+        upload,
+        operation,
+        device,
+    };
+    Answered { answer, world }
+}
+
 // Calls on nothing that stays.
 fn answer_plain(line: &[u8], name: Token, scratch: &mut [u8]) -> Answer {
     let letters = name.value;
@@ -120,7 +149,7 @@ fn answer_plain(line: &[u8], name: Token, scratch: &mut [u8]) -> Answer {
 fn answer_call(
     line: &[u8],
     world: World,
-    scratch: &mut [u8; 100000],
+    scratch: &mut [u8; 4194304],
     image: &mut [u8; 100000],
     own: &mut [u8; 65536],
     flash: &mut [u8; 65536],
@@ -147,6 +176,14 @@ fn answer_call(
                 world,
             )
         }
+        About::Run => with_run(
+            runs::run(line, name, world.operation, world.device, own, flash, store),
+            world,
+        ),
+        About::Load => with_load(
+            runs::load(line, name, world.upload, world.device, image, flash, store),
+            world,
+        ),
     }
 }
 
@@ -181,7 +218,7 @@ fn answer_line(
     world: World,
     out: &mut [u8; 65536],
     at: usize,
-    scratch: &mut [u8; 100000],
+    scratch: &mut [u8; 4194304],
     image: &mut [u8; 100000],
     own: &mut [u8; 65536],
     flash: &mut [u8; 65536],
@@ -214,7 +251,7 @@ fn run(
     block: &mut [u8; 65536],
     line: &mut [u8; 4096],
     out: &mut [u8; 65536],
-    scratch: &mut [u8; 100000],
+    scratch: &mut [u8; 4194304],
     image: &mut [u8; 100000],
     own: &mut [u8; 65536],
     flash: &mut [u8; 65536],
@@ -251,7 +288,7 @@ fn main() {
     let mut block = [0u8; 65536];
     let mut line = [0u8; 4096];
     let mut out = [0u8; 65536];
-    let mut scratch = [0u8; 100000];
+    let mut scratch = [0u8; 4194304];
     let mut image = [0u8; 100000];
     let mut own = [0u8; 65536];
     let mut flash = [0u8; 65536];

@@ -64,6 +64,10 @@ pub(crate) const CTL: u64 = 0x63746c;
 pub(crate) const ARE: u64 = 0x617265;
 
 pub(crate) const LST: u64 = 0x6c7374;
+// runs
+pub(crate) const RUN: u64 = 0x72756e;
+
+pub(crate) const URN: u64 = 0x75726e;
 // uploads
 pub(crate) const UPL: u64 = 0x75706c;
 
@@ -79,6 +83,9 @@ pub(crate) enum About {
     Operation,
     Device,
     Upload,
+    // an operation or an upload, and the device
+    Run,
+    Load,
 }
 
 pub(crate) fn about_of(name: u64) -> About {
@@ -86,6 +93,8 @@ pub(crate) fn about_of(name: u64) -> About {
         OPN | STP | GIV => About::Operation,
         DVD | DVC | BWR | BRD | CTL | ARE | LST => About::Device,
         UPL | UST => About::Upload,
+        RUN => About::Run,
+        URN => About::Load,
         _ => About::Nothing,
     }
 }

@@ -64,9 +64,9 @@ use steps::UsbStep;
 
 // The current operation: whether there is one, its record, and the length of the caller's data, which stands in a buffer of its own.
 pub(crate) struct Current {
-    is_there: bool,
-    record: UsbOperation,
-    length: usize,
+    pub is_there: bool,
+    pub record: UsbOperation,
+    pub length: usize,
 }
 
 pub(crate) struct Operated {
@@ -74,7 +74,7 @@ pub(crate) struct Operated {
     pub current: Current,
 }
 
-fn current_of(is_there: bool, record: UsbOperation, length: usize) -> Current {
+pub(crate) fn current_of(is_there: bool, record: UsbOperation, length: usize) -> Current {
     Current {
         is_there,
         record,

@@ -166,6 +166,15 @@ pub(crate) fn section(out: &mut [u8], at: usize, is_there: bool, buffer: &[u8], 
     first_bytes(out, next, buffer, n)
 }
 
+// A number as a section, where it has one.
+fn count_section(out: &mut [u8], at: usize, is_there: bool, n: u64) -> usize {
+    if !is_there {
+        return at;
+    }
+    let next = text(out, at, b" |");
+    value(out, next, n)
+}
+
 pub(crate) fn answer(
     out: &mut [u8],
     at: usize,
@@ -181,6 +190,7 @@ pub(crate) fn answer(
     let tail = answer.tail;
     let small = answer.small;
     let next = self::tail(out, next, tail, &small, scratch, own);
+    let next = count_section(out, next, answer.has_steps, answer.steps as u64);
     let next = section(out, next, answer.has_room, scratch, answer.room);
     section(out, next, answer.has_own, own, answer.own)
 }

@@ -101,7 +101,9 @@ pub(crate) struct Answer {
     pub told: Told,
     pub tail: Tail,
     pub small: [u8; 16],
-    // sections: the first bytes of the scratch, those of the operation's data
+    // sections: a run's steps, the first bytes of the scratch, those of the operation's data
+    pub has_steps: bool,
+    pub steps: u32,
     pub has_room: bool,
     pub room: usize,
     pub has_own: bool,
@@ -115,6 +117,8 @@ fn made(told: Told, tail: Tail, small: [u8; 16]) -> Answer {
         told,
         tail,
         small,
+        has_steps: false,
+        steps: 0,
         has_room: false,
         room: 0,
         has_own: false,
@@ -136,6 +140,12 @@ pub(crate) fn with_small(told: Told, small: [u8; 16], n: usize) -> Answer {
 }
 
 impl Answer {
+    pub(crate) fn with_steps(mut self, n: u32) -> Answer {
+        self.has_steps = true;
+        self.steps = n;
+        self
+    }
+
     pub(crate) fn with_room(mut self, n: usize) -> Answer {
         self.has_room = true;
         self.room = n;

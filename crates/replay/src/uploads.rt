@@ -1,4 +1,4 @@
-// "Uploads": the current upload, and whole and part-wise lists of transfers. An image has at most 100,000 bytes here.
+// "Uploads": the current upload, and whole and part-wise lists of transfers.
 use crate::data::copy;
 use crate::data::data;
 use crate::data::fill;
@@ -33,7 +33,10 @@ use maskrom::WholeUpload;
 use maskrom::write_area;
 use maskrom::write_area_no_crc;
 
+// the most of the current upload's image, and of an image whose list is asked for
 const IMAGE: u64 = 100000;
+
+const LISTED: u64 = 4194304;
 
 // the most of a part's size: the language's longest image
 const PART: u64 = 16777216;
@@ -43,9 +46,9 @@ const TURNS: u64 = 1000000000;
 
 // The current upload: whether there is one, its record, and the length of its image, which stands in a buffer of its own.
 pub(crate) struct Upload {
-    is_there: bool,
-    record: WholeUpload,
-    length: usize,
+    pub is_there: bool,
+    pub record: WholeUpload,
+    pub length: usize,
 }
 
 pub(crate) struct Uploaded {
@@ -61,14 +64,17 @@ fn begun(area: u16, is_checked: bool, image: &[u8]) -> WholeStart {
     }
 }
 
+pub(crate) fn upload_of(is_there: bool, record: WholeUpload, length: usize) -> Upload {
+    Upload {
+        is_there,
+        record,
+        length,
+    }
+}
+
 pub(crate) fn no_upload() -> Upload {
     let begun = begun(0, false, b"");
-    let record = begun.upload;
-    Upload {
-        is_there: false,
-        record,
-        length: 0,
-    }
+    upload_of(false, begun.upload, 0)
 }
 
 fn answered(told: Told, upload: Upload) -> Uploaded {
@@ -78,12 +84,7 @@ fn answered(told: Told, upload: Upload) -> Uploaded {
 
 fn started(start: WholeStart, length: usize) -> Uploaded {
     let outcome = start.start;
-    let record = start.upload;
-    let upload = Upload {
-        is_there: true,
-        record,
-        length,
-    };
+    let upload = upload_of(true, start.upload, length);
     match outcome {
         UploadStart::Started => answered(none(0), upload),
         UploadStart::ImageTooLong => answered(none(25), no_upload()),
@@ -133,13 +134,8 @@ fn stepped(upload: Upload, image: &[u8], out: &mut [u8]) -> Uploaded {
     let record = upload.record;
     let done = record.step(image, out);
     let step = done.step;
-    let record = done.next;
     let answer = plain(step_told(step)).with_room(out.len());
-    let upload = Upload {
-        is_there: true,
-        record,
-        length: upload.length,
-    };
+    let upload = upload_of(true, done.next, upload.length);
     Uploaded { answer, upload }
 }
 
@@ -245,11 +241,12 @@ fn list_answer(list: List) -> Answer {
 
 // The list of the image in the scratch's first `n` bytes; its text takes the image's place.
 fn all_of(area: u16, is_checked: bool, n: usize, scratch: &mut [u8]) -> Answer {
-    let mut text = [0u8; 4096];
+    let mut text = [0u8; 32768];
     let n = within(n, scratch);
     let begun = begun(area, is_checked, &scratch[..n]);
     let list = whole_list(begun.upload, &scratch[..n], &mut text);
-    copy(&text, scratch);
+    let end = within(list.at, &text);
+    copy(&text[..end], scratch);
     list_answer(list)
 }
 
@@ -257,7 +254,7 @@ fn all_of(area: u16, is_checked: bool, n: usize, scratch: &mut [u8]) -> Answer {
 pub(crate) fn all(line: &[u8], name: Token, scratch: &mut [u8]) -> Answer {
     let area = number(line, name, U16);
     let check = number(line, area, 1);
-    let given = data(line, check, IMAGE, scratch);
+    let given = data(line, check, LISTED, scratch);
     if !is_end(line, given) {
         return plain(outside());
     }
@@ -416,10 +413,11 @@ fn sizes(line: &[u8], count: Token) -> Token {
 }
 
 fn cut_of(line: &[u8], count: Token, start: Cut, n: usize, scratch: &mut [u8]) -> Answer {
-    let mut text = [0u8; 4096];
+    let mut text = [0u8; 32768];
     let n = within(n, scratch);
     let list = cut_list(line, count, count.value, &scratch[..n], &mut text, start);
-    copy(&text, scratch);
+    let end = within(list.at, &text);
+    copy(&text[..end], scratch);
     list_answer(list)
 }
 
@@ -430,7 +428,7 @@ pub(crate) fn cut_up(line: &[u8], name: Token, scratch: &mut [u8]) -> Answer {
     let count = number(line, check, 2047);
     let last = sizes(line, count);
     let start = new_cut(area.as_u16(), check.value == 1, count);
-    let given = data(line, last, IMAGE, scratch);
+    let given = data(line, last, LISTED, scratch);
     if last.value == 0 || !is_end(line, given) {
         return plain(outside());
     }

@@ -1,6 +1,9 @@
 //! Numbers, command and status blocks, replies.
 
-use std::panic::{AssertUnwindSafe, catch_unwind};
+use std::{
+    panic::{AssertUnwindSafe, catch_unwind},
+    sync::OnceLock,
+};
 
 use rockusb::{
     operation::{OperationSteps, UsbOperationError, UsbStep},
@@ -247,8 +250,10 @@ pub fn sectors(tokens: &mut Tokens) -> Answer {
     if len > crate::operations::SECTOR_BYTES_LIMIT {
         return Err(Stop::Outside);
     }
-    let data = vec![0; len as usize];
-    let mut operation = asked(|| rockusb::operation::write_lba(0, &data))?;
+    // Made once: it has up to 33,553,920 bytes, of which only the length counts.
+    static ZEROS: OnceLock<Vec<u8>> = OnceLock::new();
+    let zeros = ZEROS.get_or_init(|| vec![0; crate::operations::SECTOR_BYTES_LIMIT as usize]);
+    let mut operation = asked(|| rockusb::operation::write_lba(0, &zeros[..len as usize]))?;
     let UsbStep::WriteBulk { data: command } = operation.step() else {
         unreachable!("the first step of an operation")
     };

@@ -1,96 +1,250 @@
-//! The same cases to the Rust and to another program.
+//! The same cases to the Rust and to another program, as a stream: what is held at a time does not grow with their number.
 
 use std::{
-    collections::BTreeMap,
     io::{self, BufRead, BufReader, BufWriter, Write},
-    process::{Command, Stdio},
+    process::{Child, ChildStdin, Command, Stdio},
+    sync::{
+        Arc,
+        mpsc::{Receiver, SyncSender, sync_channel},
+    },
     thread,
 };
 
 use crate::{
     cases::{Kind, generate, make::Case},
     oracle::{OUTSIDE, Oracle},
+    smallest::smallest,
 };
 
+/// Lines handed on at once, and how often before they are answered: more lines than a program's output buffer can hold answers of.
+const BATCH: usize = 4096;
+const WAITING: usize = 16;
+
+/// Differences of a kind that are made small and printed; the others are counted.
+pub const SHOWN: usize = 3;
+
+const NO_ANSWER: &str = "(no answer)";
+
+pub type Cases = Box<dyn Iterator<Item = Case> + Send>;
+
 #[derive(Default)]
-struct Count {
-    lines: usize,
-    outside: usize,
-    differences: usize,
+pub struct Count {
+    pub cases: usize,
+    pub calls: usize,
+    pub outside: usize,
+    pub differences: usize,
+    /// Lines that were not of the language, and panics that were not expected.
+    pub complaints: usize,
+    /// The first cases that differed, up to the line that did.
+    pub found: Vec<Case>,
 }
 
-/// Whether there was no difference.
-pub fn compare(program: &str, kinds: &[Kind], seed: u64, count: usize) -> io::Result<bool> {
-    let cases: Vec<(Kind, Case)> = generate(kinds, seed, count).collect();
-    let mut child =
-        Command::new("sh").args(["-c", program]).stdin(Stdio::piped()).stdout(Stdio::piped()).spawn()?;
-    let mut stdin = BufWriter::new(child.stdin.take().expect("piped"));
-    let input: Vec<String> = cases.iter().flat_map(|(_, case)| case.clone()).collect();
-    let feeder = thread::spawn(move || {
-        // A program that ends early is seen by its missing answers.
-        for line in input {
+impl Count {
+    pub fn add(&mut self, other: Count) {
+        self.cases += other.cases;
+        self.calls += other.calls;
+        self.outside += other.outside;
+        self.differences += other.differences;
+        self.complaints += other.complaints;
+        self.found.extend(other.found);
+    }
+
+    pub fn is_good(&self) -> bool {
+        self.differences == 0 && self.complaints == 0
+    }
+}
+
+pub struct Difference {
+    pub case: Case,
+    pub rust: String,
+    pub ours: String,
+}
+
+fn start(program: &str) -> io::Result<Child> {
+    Command::new("sh").args(["-c", program]).stdin(Stdio::piped()).stdout(Stdio::piped()).spawn()
+}
+
+/// One line of answers, without its end.
+fn next_answer(from: &mut impl BufRead, into: &mut String) -> io::Result<bool> {
+    into.clear();
+    let read = from.read_line(into)?;
+    if into.ends_with('\n') {
+        into.pop();
+    }
+    Ok(read > 0)
+}
+
+/// Hands cases to the program and to the comparer, until either has ended. All that was handed over before is with the program
+/// while this waits for the comparer.
+fn feed(cases: Cases, stdin: ChildStdin, to: SyncSender<Arc<Vec<Case>>>) {
+    let mut stdin = BufWriter::new(stdin);
+    let mut cases = cases.peekable();
+    while cases.peek().is_some() {
+        let mut lines = 0;
+        let mut batch = Vec::new();
+        while lines < BATCH {
+            let Some(case) = cases.next() else { break };
+            lines += case.len();
+            batch.push(case);
+        }
+        let batch = Arc::new(batch);
+        if stdin.flush().is_err() || to.send(batch.clone()).is_err() {
+            return;
+        }
+        for line in batch.iter().flatten() {
             if writeln!(stdin, "{line}").is_err() {
-                break;
+                return;
             }
         }
-    });
-    let mut answers = BufReader::new(child.stdout.take().expect("piped")).lines();
-    let mut oracle = Oracle::default();
-    let mut counts: BTreeMap<&str, Count> = BTreeMap::new();
-    for (kind, case) in &cases {
-        let tally = counts.entry(kind.name()).or_default();
-        compare_case(&mut oracle, &mut answers, case, tally)?;
     }
-    let more = answers.next().is_some();
-    feeder.join().expect("the feeder does not panic");
-    let status = child.wait()?;
-    report(&counts, more, &status.to_string());
-    Ok(!more && counts.values().all(|c| c.differences == 0))
 }
 
+/// Every answer of one program to these cases is compared with the Rust's.
+pub fn compare_cases(program: &str, cases: Cases) -> io::Result<Count> {
+    let mut child = start(program)?;
+    let stdin = child.stdin.take().expect("piped");
+    let mut answers = BufReader::with_capacity(1 << 17, child.stdout.take().expect("piped"));
+    let (to, from) = sync_channel(WAITING);
+    let feeder = thread::spawn(move || feed(cases, stdin, to));
+    let count = compare_batches(from, &mut answers)?;
+    feeder.join().expect("the feeder does not panic");
+    drop(answers);
+    child.wait()?;
+    Ok(count)
+}
+
+fn compare_batches(from: Receiver<Arc<Vec<Case>>>, answers: &mut impl BufRead) -> io::Result<Count> {
+    let mut count = Count::default();
+    let mut oracle = Oracle::default();
+    let mut ours = String::new();
+    for batch in from.iter() {
+        for case in batch.iter() {
+            if !compare_case(&mut oracle, answers, case, &mut ours, &mut count)? {
+                count.complaints += oracle.complaints().len();
+                return Ok(count);
+            }
+        }
+    }
+    if next_answer(answers, &mut ours)? {
+        println!("the program answered more lines than it was asked");
+        count.differences += 1;
+    }
+    count.complaints += oracle.complaints().len();
+    Ok(count)
+}
+
+/// Whether the program still answers.
 fn compare_case(
     oracle: &mut Oracle,
-    answers: &mut impl Iterator<Item = io::Result<String>>,
+    answers: &mut impl BufRead,
     case: &Case,
-    tally: &mut Count,
-) -> io::Result<()> {
-    let mut shown = 0;
+    ours: &mut String,
+    count: &mut Count,
+) -> io::Result<bool> {
+    let mut is_first = true;
+    count.cases += 1;
     for (i, line) in case.iter().enumerate() {
         let rust = oracle.answer(line);
-        let ours = answers.next().transpose()?.unwrap_or("(no answer)".into());
-        tally.lines += 1;
+        let answered = next_answer(answers, ours)?;
+        count.calls += 1;
         if rust == OUTSIDE {
-            tally.outside += 1;
-        } else if rust != ours {
-            tally.differences += 1;
-            println!("difference:");
-            for before in &case[shown..=i] {
-                println!("  > {before}");
-            }
-            println!("  rust: {rust}");
-            println!("  ours: {ours}");
-            shown = i + 1;
+            count.outside += 1;
         }
+        if !answered || (rust != OUTSIDE && rust != *ours) {
+            count.differences += 1;
+            if is_first && count.found.len() < SHOWN {
+                count.found.push(case[..=i].to_vec());
+            }
+            is_first = false;
+        }
+        if !answered {
+            println!("the program stopped answering");
+            return Ok(false);
+        }
+    }
+    Ok(true)
+}
+
+/// The first line of a case on which the two sides differ, both asked anew.
+pub fn differ(program: &str, case: &[String]) -> io::Result<Option<Difference>> {
+    let mut child = start(program)?;
+    let mut stdin = child.stdin.take().expect("piped");
+    let text = case.concat_lines();
+    let feeder = thread::spawn(move || {
+        // A program that ends early is seen by its missing answers.
+        let _ = stdin.write_all(text.as_bytes());
+    });
+    let mut answers = BufReader::new(child.stdout.take().expect("piped"));
+    let mut oracle = Oracle::quiet();
+    let mut ours = String::new();
+    let mut found = None;
+    for (i, line) in case.iter().enumerate() {
+        let rust = oracle.answer(line);
+        let answered = next_answer(&mut answers, &mut ours)?;
+        if !answered {
+            ours = NO_ANSWER.into();
+        }
+        if found.is_none() && (!answered || (rust != OUTSIDE && rust != ours)) {
+            found = Some(Difference { case: case[..=i].to_vec(), rust, ours: ours.clone() });
+        }
+    }
+    drop(answers);
+    feeder.join().expect("the feeder does not panic");
+    child.wait()?;
+    Ok(found)
+}
+
+trait Lines {
+    fn concat_lines(&self) -> String;
+}
+
+impl Lines for [String] {
+    fn concat_lines(&self) -> String {
+        self.iter().flat_map(|line| [line.as_str(), "\n"]).collect()
+    }
+}
+
+/// Prints the smallest case of each difference that is shown, where it is not that of one before.
+pub fn print_found(program: &str, count: &Count) -> io::Result<()> {
+    let mut printed = Vec::new();
+    let mut found: Vec<&Case> = count.found.iter().collect();
+    found.sort_by_key(|case| (case.len(), *case));
+    for case in found.into_iter().take(SHOWN) {
+        let Some(difference) = smallest(program, case)? else {
+            println!("difference, gone when asked again:");
+            case.iter().for_each(|line| println!("  > {line}"));
+            continue;
+        };
+        if printed.contains(&difference.case) {
+            continue;
+        }
+        println!("difference:");
+        difference.case.iter().for_each(|line| println!("  > {line}"));
+        println!("  rust: {}", difference.rust);
+        println!("  ours: {}", difference.ours);
+        printed.push(difference.case);
     }
     Ok(())
 }
 
-fn report(counts: &BTreeMap<&str, Count>, more: bool, status: &str) {
+pub fn print_count(name: &str, count: &Count) {
+    let Count { cases, calls, outside, differences, complaints, .. } = count;
+    println!("{name}cases {cases}, calls {calls}, outside {outside}, differences {differences}");
+    if *complaints > 0 {
+        println!("{name}{complaints} lines were not of the language, or panics that were not expected");
+    }
+}
+
+/// Whether there was no difference.
+pub fn compare(program: &str, kinds: &[Kind], seed: u64, count: usize) -> io::Result<bool> {
     let mut all = Count::default();
-    for (kind, c) in counts {
-        println!("{kind}: cases {}, outside {}, differences {}", c.lines, c.outside, c.differences);
-        all.lines += c.lines;
-        all.outside += c.outside;
-        all.differences += c.differences;
+    for kind in kinds {
+        let cases = generate(&[*kind], seed, count.div_ceil(kinds.len())).map(|(_, case)| case);
+        let counted = compare_cases(program, Box::new(cases))?;
+        print_found(program, &counted)?;
+        print_count(&format!("{}: ", kind.name()), &counted);
+        all.add(counted);
     }
-    println!("the program ended with {status}");
-    if more {
-        println!("the program answered more lines than it was asked");
-    }
-    println!(
-        "cases {}, outside {}, differences {}",
-        all.lines,
-        all.outside,
-        all.differences + usize::from(more)
-    );
+    print_count("", &all);
+    Ok(all.is_good())
 }

@@ -5,7 +5,9 @@ mod cases;
 mod compare;
 mod operations;
 mod oracle;
+mod scale;
 mod selftest;
+mod smallest;
 mod stand;
 mod text;
 
@@ -66,6 +68,9 @@ fn dispatch(args: &[&str]) -> Option<io::Result<bool>> {
         ["sample", kind] => sample(&Kind::named(kind)?),
         ["compare", program, kind, seed, count] => {
             compare::compare(program, &Kind::named(kind)?, seed.parse().ok()?, count.parse().ok()?)
+        }
+        ["scale", program, seed, share] => {
+            scale::scale(program, seed.parse().ok()?, share.parse().ok().filter(|share| *share > 0)?)
         }
         ["selftest", page] => selftest::selftest(page),
         _ => return None,

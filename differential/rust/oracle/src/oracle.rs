@@ -18,16 +18,24 @@ pub struct Oracle {
     upload: Option<Upload>,
     device: Option<Stand>,
     complaints: Vec<String>,
+    is_quiet: bool,
 }
 
 impl Oracle {
+    /// Complains to nobody.
+    pub fn quiet() -> Oracle {
+        Oracle { is_quiet: true, ..Oracle::default() }
+    }
+
     /// Lines that were not of the language, and panics that were not expected.
     pub fn complaints(&self) -> &[String] {
         &self.complaints
     }
 
     fn complain(&mut self, complaint: String) {
-        eprintln!("oracle: {complaint}");
+        if !self.is_quiet {
+            eprintln!("oracle: {complaint}");
+        }
         self.complaints.push(complaint);
     }
 
@@ -37,7 +45,8 @@ impl Oracle {
             Ok(Err(Stop::Outside)) => {}
             Ok(Err(Stop::Unreadable)) => self.complain(format!("not of the language: {line}")),
             Err(_) => {
-                *self = Oracle { complaints: std::mem::take(&mut self.complaints), ..Oracle::default() };
+                let (complaints, is_quiet) = (std::mem::take(&mut self.complaints), self.is_quiet);
+                *self = Oracle { complaints, is_quiet, ..Oracle::default() };
                 self.complain(format!("a panic that was not expected: {line}"));
             }
         }

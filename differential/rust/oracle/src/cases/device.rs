@@ -220,10 +220,19 @@ pub fn random_start(rng: &mut Rng, store: usize) -> (String, usize) {
 
 /// A long sequence of raw calls, most of them parts of good transactions.
 pub fn random(rng: &mut Rng) -> Case {
+    sequence(rng, 40, 100)
+}
+
+/// The same, ten times as long.
+pub fn random_long(rng: &mut Rng) -> Case {
+    sequence(rng, 400, 1000)
+}
+
+fn sequence(rng: &mut Rng, least: usize, more: usize) -> Case {
     let store = rng.pick(&[0, 7, 8, 64, 200, 512, 4096, 65_536]);
     let (start, sectors) = random_start(rng, store);
     let mut lines = vec![start];
-    let until = 40 + rng.below(100);
+    let until = least + rng.below(more);
     while lines.len() < until {
         let mut calls = transaction(rng, sectors);
         if rng.one_in(4) {

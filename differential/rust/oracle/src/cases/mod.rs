@@ -20,7 +20,7 @@ pub enum Kind {
     Device,
     Runs,
     Uploads,
-    /// Images to 16 MiB; not one of `all`.
+    /// Images to 4 MiB; not one of `all`.
     Large,
 }
 
@@ -49,7 +49,7 @@ impl Kind {
         Some(vec![found])
     }
 
-    fn exhaustive(self) -> Vec<Case> {
+    pub fn exhaustive(self) -> Vec<Case> {
         match self {
             Kind::Blocks => blocks::exhaustive(),
             Kind::Status => status::exhaustive(),
@@ -62,7 +62,7 @@ impl Kind {
         }
     }
 
-    fn random(self, rng: &mut Rng) -> Case {
+    pub fn random(self, rng: &mut Rng) -> Case {
         match self {
             Kind::Blocks => blocks::random(rng),
             Kind::Status => status::random(rng),
@@ -77,7 +77,7 @@ impl Kind {
 }
 
 /// The exhaustive cases of each kind, then random ones in turn until there are `count` lines of these.
-pub fn generate(kinds: &[Kind], seed: u64, count: usize) -> impl Iterator<Item = (Kind, Case)> {
+pub fn generate(kinds: &[Kind], seed: u64, count: usize) -> impl Iterator<Item = (Kind, Case)> + use<> {
     let kinds = kinds.to_vec();
     let fixed: Vec<(Kind, Case)> =
         kinds.iter().flat_map(|kind| kind.exhaustive().into_iter().map(|case| (*kind, case))).collect();

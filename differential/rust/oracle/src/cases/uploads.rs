@@ -51,6 +51,34 @@ fn lists(image: &str, len: usize) -> Case {
     lines
 }
 
+/// Lengths that the run at scale has every one of.
+pub const EVERY: std::ops::RangeInclusive<usize> = 0..=12_300;
+
+/// Cuts into single bytes, of which each part costs as much as a block: where a block ends, and short images.
+fn in_single_bytes(len: usize) -> bool {
+    len <= 100 || (4092..=4097).contains(&len) || (8190..=8193).contains(&len)
+}
+
+/// One length, checked and unchecked: step by step, as a list, and the same list under several cuts.
+pub fn of_every_length(rng: &mut Rng, len: usize) -> Vec<Case> {
+    let mut cases = Vec::new();
+    for check in [1, 0] {
+        let area = rng.half();
+        let image = any_data(rng, len);
+        cases.push(stepped(&format!("upl {area} {check} {image}"), len, 4096 + rng.below(3), rng.byte()));
+        let mut lines = vec![format!("all {area} {check} {image}")];
+        let mut cuts = ["1 4095", "1 4096", "1 4097"].map(String::from).to_vec();
+        cuts.push(format!("2 {} 0", len / 8 + 1));
+        cuts.push(random_cut(rng, len));
+        if in_single_bytes(len) {
+            cuts.push("1 1".into());
+        }
+        lines.extend(cuts.iter().map(|cut| format!("cut {area} {check} {cut} {image}")));
+        cases.push(lines);
+    }
+    cases
+}
+
 /// A length near the places where a block is full, or any.
 fn near_a_block(rng: &mut Rng, blocks: usize) -> usize {
     let full = rng.below(blocks + 1) * 4096;
@@ -86,7 +114,7 @@ pub fn random(rng: &mut Rng) -> Case {
 }
 
 pub fn large(rng: &mut Rng) -> Case {
-    let blocks = rng.pick(&[100, 1000, 4095]);
+    let blocks = rng.pick(&[50, 300, 1023]);
     of_length(rng, blocks)
 }
 

@@ -1,0 +1,120 @@
+//! The comparison at scale: every kind, more than ten million calls, on all cores.
+
+use std::{
+    collections::BTreeMap,
+    io,
+    sync::Mutex,
+    thread,
+    time::{Duration, Instant},
+};
+
+use crate::{
+    cases::{Kind, device, make::Rng, uploads},
+    compare::{Cases, Count, compare_cases, print_count, print_found},
+};
+
+/// Random calls of each kind. Of uploads there are those of every length beside these.
+const CALLS: [(Kind, usize); 8] = [
+    (Kind::Blocks, 3_000_000),
+    (Kind::Status, 1_500_000),
+    (Kind::Replies, 1_000_000),
+    (Kind::Operations, 2_500_000),
+    (Kind::Device, 1_800_000),
+    (Kind::Runs, 600_000),
+    (Kind::Uploads, 4_000),
+    (Kind::Large, 400),
+];
+
+/// A kind's calls are asked in so many pieces, so that no core is left idle for long.
+const PIECES: usize = 8;
+
+struct Job {
+    kind: Kind,
+    cases: Cases,
+}
+
+/// Random cases until there are `calls` of them.
+fn random(mut make: impl FnMut() -> Vec<String> + Send + 'static, calls: usize) -> Cases {
+    let mut made = 0;
+    Box::new(std::iter::from_fn(move || {
+        if made >= calls {
+            return None;
+        }
+        let case = make();
+        made += case.len();
+        Some(case)
+    }))
+}
+
+/// One in five of the device's pieces is of sequences that are ten times as long.
+fn random_piece(kind: Kind, piece: usize, mut rng: Rng, calls: usize) -> Cases {
+    if kind == Kind::Device && piece % 5 == 0 {
+        return random(move || device::random_long(&mut rng), calls);
+    }
+    random(move || kind.random(&mut rng), calls)
+}
+
+/// Every length that leaves `piece` over `PIECES`, or one in `share` of them.
+fn lengths_piece(piece: usize, mut rng: Rng, share: usize) -> Cases {
+    let lengths = uploads::EVERY.skip(piece).step_by(PIECES).step_by(share);
+    Box::new(lengths.flat_map(move |len| uploads::of_every_length(&mut rng, len)))
+}
+
+/// The long jobs first. Every job has a seed of its own, so that the order in which they end changes nothing.
+fn jobs(seed: u64, share: usize) -> Vec<Job> {
+    let mut seeds = Rng::new(seed);
+    let mut jobs = Vec::new();
+    for piece in 0..PIECES {
+        jobs.push(Job { kind: Kind::Uploads, cases: lengths_piece(piece, Rng::new(seeds.next()), share) });
+    }
+    for (kind, calls) in CALLS.into_iter().rev() {
+        for piece in 0..PIECES {
+            let rng = Rng::new(seeds.next());
+            jobs.push(Job { kind, cases: random_piece(kind, piece, rng, calls.div_ceil(PIECES * share)) });
+        }
+        jobs.push(Job { kind, cases: Box::new(kind.exhaustive().into_iter()) });
+    }
+    jobs
+}
+
+fn work(
+    program: &str,
+    jobs: &Mutex<impl Iterator<Item = Job>>,
+    counts: &Mutex<BTreeMap<&'static str, Count>>,
+) -> io::Result<()> {
+    loop {
+        let Some(job) = jobs.lock().expect("no job panics").next() else {
+            return Ok(());
+        };
+        let count = compare_cases(program, job.cases)?;
+        counts.lock().expect("no job panics").entry(job.kind.name()).or_default().add(count);
+    }
+}
+
+/// Whether there was no difference. `share` takes one in so many of the calls.
+pub fn scale(program: &str, seed: u64, share: usize) -> io::Result<bool> {
+    println!("seed {seed}");
+    let began = Instant::now();
+    let jobs = Mutex::new(jobs(seed, share).into_iter());
+    let counts = Mutex::new(BTreeMap::new());
+    let cores = thread::available_parallelism().map_or(1, |n| n.get());
+    thread::scope(|scope| {
+        let workers: Vec<_> = (0..cores).map(|_| scope.spawn(|| work(program, &jobs, &counts))).collect();
+        workers.into_iter().try_for_each(|worker| worker.join().expect("no job panics"))
+    })?;
+    let counts = counts.into_inner().expect("no job panics");
+    report(program, counts, began.elapsed())
+}
+
+fn report(program: &str, mut counts: BTreeMap<&str, Count>, took: Duration) -> io::Result<bool> {
+    let mut all = Count::default();
+    for (kind, _) in CALLS {
+        let count = counts.remove(kind.name()).unwrap_or_default();
+        print_found(program, &count)?;
+        print_count(&format!("{}: ", kind.name()), &count);
+        all.add(count);
+    }
+    println!("{} seconds", took.as_secs());
+    print_count("", &all);
+    Ok(all.is_good())
+}
