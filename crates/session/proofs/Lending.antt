@@ -77,10 +77,11 @@ module _ {M : Type 1} (𝓤 : URA M) (H : Heap 𝓤) (A : Atoms 𝓤) (W : Given
       move ! (1 ∷ []) $ facts ! T.the-row (Is T.the-row) (shows 𝓤 H A T.the-row) h (val h ∷ []) (λ is.
       use1 W (‵ (Cell l h)) (W .laws .raw-at fullShare T′.mir l 0 (val h)) $ at-once ! $ check ! is $ done !))
 
-module _ (κ κ′ : Lft) (q : Share) (γ : GName) (b o : ℕ) where
-  abbrev pub at-list : GName → List ℕ → RefT (List ℕ)
-  at-list δ ys = record { ptr = (b, o); name = δ; now = ys }
+-- a reference to bytes
+abbrev pub slice-at : ℕ → ℕ → GName → List ℕ → RefT (List ℕ)
+slice-at b o δ ys = record { ptr = (b, o); name = δ; now = ys }
 
+module _ (κ κ′ : Lft) (q : Share) (γ : GName) (b o : ℕ) where
   -- the holder's own borrow, open at ys
   abbrev Open : List ℕ → Fml
   Open ys = fsep (fobor κ q (Held u8 (length ys) b o γ)) (fsep (fobs γ (codedHoleys u8 .code (heres u8 ys))) (fauth γ (codedHoleys u8 .code (heres u8 ys))))
@@ -99,42 +100,42 @@ module _ (κ κ′ : Lft) (q : Share) (γ : GName) (b o : ℕ) where
     spelled : (zs : List ℕ) → length zs ≡ n → vals ≡ sliceVal (b, o) (length zs) ∷ []
     spelled zs e = ap (λ (m : ℕ). sliceVal (b, o) m ∷ []) (sym e)
 
-    pub lends-again : ent 𝓤 (sep 𝓤 (sem 𝓤 H A (MutSlice ℓ κ u8 .own (at-list γ ys) vals)) (A .lft κ q))
-        (H .⇛ (ex 𝓤 (λ (δ : GName). sep 𝓤 (sem 𝓤 H A (MutSlice ℓ′ κ′ u8 .own (at-list δ ys) vals)) (sem 𝓤 H A (LentAgain δ ys)))))
+    pub lends-again : ent 𝓤 (sep 𝓤 (sem 𝓤 H A (MutSlice ℓ κ u8 .own (slice-at b o γ ys) vals)) (A .lft κ q))
+        (H .⇛ (ex 𝓤 (λ (δ : GName). sep 𝓤 (sem 𝓤 H A (MutSlice ℓ′ κ′ u8 .own (slice-at b o δ ys) vals)) (sem 𝓤 H A (LentAgain δ ys)))))
     lends-again =
-        qed W (‵ (MutSlice ℓ κ u8 .own (at-list γ ys) vals) ∷ ‵ (flft κ q) ∷ []) ∵ updating ! $ fsplit ! $ pureL ! (at-slice u8 (at-list γ ys) vals) (λ p. fsplit ! $ opens-slice ! tt u8 ys b o $
+        qed W (‵ (MutSlice ℓ κ u8 .own (slice-at b o γ ys) vals) ∷ ‵ (flft κ q) ∷ []) ∵ updating ! $ fsplit ! $ pureL ! (at-slice u8 (slice-at b o γ ys) vals) (λ p. fsplit ! $ opens-slice ! tt u8 ys b o $
         use1 W (‵ (cells (mem u8) ys b o)) (whole-in 𝓤 H A W u8 ys b o) $
-        use1 W (later (some (λ (δ : GName). ‵ (MutSlice ℓ′ κ′ u8 .own (at-list δ ys) (sliceVal (b, o) (length ys) ∷ [])) ⊛ ‵ (flent κ′ (Held u8 (length ys) b o δ))))) (lends-slice 𝓤 H A W u8 ℓ′ κ′ ys b o (p .1)) $ await ! tt $ pick ! (λ δ. split ! $
+        use1 W (later (some (λ (δ : GName). ‵ (MutSlice ℓ′ κ′ u8 .own (slice-at b o δ ys) (sliceVal (b, o) (length ys) ∷ [])) ⊛ ‵ (flent κ′ (Held u8 (length ys) b o δ))))) (lends-slice 𝓤 H A W u8 ℓ′ κ′ ys b o (p .1)) $ await ! tt $ pick ! (λ δ. split ! $
         -- [the new slice; the lender's part at κ′; the open borrow at κ; obs γ; auth γ]
-        rewrite ! 0 (λ (vs : List Val). ‵ (MutSlice ℓ′ κ′ u8 .own (at-list δ ys) vs)) (sym (spelled ys long)) refl $
-        at-once ! $ show ! (λ (δ′ : GName). sep 𝓤 (sem 𝓤 H A (MutSlice ℓ′ κ′ u8 .own (at-list δ′ ys) vals)) (sem 𝓤 H A (LentAgain δ′ ys))) δ $ frame ! $
+        rewrite ! 0 (λ (vs : List Val). ‵ (MutSlice ℓ′ κ′ u8 .own (slice-at b o δ ys) vs)) (sym (spelled ys long)) refl $
+        at-once ! $ show ! (λ (δ′ : GName). sep 𝓤 (sem 𝓤 H A (MutSlice ℓ′ κ′ u8 .own (slice-at b o δ′ ys) vals)) (sem 𝓤 H A (LentAgain δ′ ys))) δ $ frame ! $
         move ! (2 ∷ 3 ∷ []) $ fjoin ! $ move ! (2 ∷ 0 ∷ []) $ fjoin ! $ move ! (1 ∷ 0 ∷ []) $ fjoin ! $ done !))
 
     -- the borrow at κ is closed at zs
     closed : (zs : List ℕ) → length zs ≡ length ys → Room u8 (length ys)
-        → ent 𝓤 (sep 𝓤 (sem 𝓤 H A (row u8 fullShare zs b o)) (sem 𝓤 H A (Open ys))) (H .⇛ (sep 𝓤 (sem 𝓤 H A (MutSlice ℓ κ u8 .own (at-list γ zs) vals)) (A .lft κ q)))
+        → ent 𝓤 (sep 𝓤 (sem 𝓤 H A (row u8 fullShare zs b o)) (sem 𝓤 H A (Open ys))) (H .⇛ (sep 𝓤 (sem 𝓤 H A (MutSlice ℓ κ u8 .own (slice-at b o γ zs) vals)) (A .lft κ q)))
     closed zs e room =
         qed W (‵ (row u8 fullShare zs b o) ∷ ‵ (Open ys) ∷ []) ∵ updating ! $ move ! (1 ∷ []) $ fsplit ! $ move ! (1 ∷ []) $ fsplit ! $ move ! (3 ∷ 2 ∷ 0 ∷ 1 ∷ []) $ closes-slice ! tt u8 ys zs e b o $ at-once ! $
-        fjoin ! $ pureI ! (at-slice u8 (at-list γ zs) vals) (tt, (tt, tt)) (spelled zs (e ∙ long), subst (Room u8) (sym e) room) $ fjoin ! $ done !
+        fjoin ! $ pureI ! (at-slice u8 (slice-at b o γ zs) vals) (tt, (tt, tt)) (spelled zs (e ∙ long), subst (Room u8) (sym e) room) $ fjoin ! $ done !
 
     pub comes-back : (δ : GName) (zs : List ℕ) → Room u8 (length ys) → length zs ≡ length ys
-        → ent 𝓤 (sep 𝓤 (A .dead κ′) (sep 𝓤 (sem 𝓤 H A (LentAgain δ ys)) (sem 𝓤 H A (finally u8 δ zs)))) (H .⇛ (sep 𝓤 (sem 𝓤 H A (MutSlice ℓ κ u8 .own (at-list γ zs) vals)) (A .lft κ q)))
+        → ent 𝓤 (sep 𝓤 (A .dead κ′) (sep 𝓤 (sem 𝓤 H A (LentAgain δ ys)) (sem 𝓤 H A (finally u8 δ zs)))) (H .⇛ (sep 𝓤 (sem 𝓤 H A (MutSlice ℓ κ u8 .own (slice-at b o γ zs) vals)) (A .lft κ q)))
     comes-back δ zs room e =
         qed W (‵ (fdead κ′) ∷ ‵ (LentAgain δ ys) ∷ ‵ (finally u8 δ zs) ∷ []) ∵ updating ! $ move ! (1 ∷ []) $ fsplit ! $ move ! (2 ∷ 0 ∷ 3 ∷ []) $
         use3 W (later (‵ (Arr (mem u8) (length ys) .lies zs b o))) (slice-back 𝓤 H A W u8 κ′ δ zs (length ys) b o) $ await ! tt $ fsplit ! $ drop ! $ use1 W (‵ (row u8 fullShare zs b o)) (whole-out 𝓤 H A W u8 zs b o) $
-        use2 W (later (‵ (MutSlice ℓ κ u8 .own (at-list γ zs) vals) ⊛ ‵ (flft κ q))) (closed zs e room) $ await ! tt $ split ! $ at-once ! $ done !
+        use2 W (later (‵ (MutSlice ℓ κ u8 .own (slice-at b o γ zs) vals) ⊛ ‵ (flft κ q))) (closed zs e room) $ await ! tt $ split ! $ at-once ! $ done !
 
-    pub shares-again : ent 𝓤 (sep 𝓤 (sem 𝓤 H A (MutSlice ℓ κ u8 .own (at-list γ ys) vals)) (A .lft κ q))
-        (H .⇛ (ex 𝓤 (λ (δ : GName). sep 𝓤 (sem 𝓤 H A (ShrSlice ℓ′ κ′ u8 .own (at-list δ ys) vals)) (sem 𝓤 H A (SharedAgain ys)))))
+    pub shares-again : ent 𝓤 (sep 𝓤 (sem 𝓤 H A (MutSlice ℓ κ u8 .own (slice-at b o γ ys) vals)) (A .lft κ q))
+        (H .⇛ (ex 𝓤 (λ (δ : GName). sep 𝓤 (sem 𝓤 H A (ShrSlice ℓ′ κ′ u8 .own (slice-at b o δ ys) vals)) (sem 𝓤 H A (SharedAgain ys)))))
     shares-again =
-        qed W (‵ (MutSlice ℓ κ u8 .own (at-list γ ys) vals) ∷ ‵ (flft κ q) ∷ []) ∵ updating ! $ fsplit ! $ pureL ! (at-slice u8 (at-list γ ys) vals) (λ p. fsplit ! $ opens-slice ! tt u8 ys b o $
+        qed W (‵ (MutSlice ℓ κ u8 .own (slice-at b o γ ys) vals) ∷ ‵ (flft κ q) ∷ []) ∵ updating ! $ fsplit ! $ pureL ! (at-slice u8 (slice-at b o γ ys) vals) (λ p. fsplit ! $ opens-slice ! tt u8 ys b o $
         feqI ! ℕ (length ys) (length ys) refl $ fjoin ! $
-        use1 W (later (some (λ (δ : GName). ‵ (ShrSlice ℓ′ κ′ u8 .own (at-list δ ys) (sliceVal (b, o) (length ys) ∷ [])) ⊛ ‵ (flent κ′ (arr-parts (shares u8) (length ys) .part fullShare ys b o))))) (lends-shr-slice 𝓤 H A W u8 ℓ′ κ′ fullShare ys b o (p .1)) $ await ! tt $ pick ! (λ δ. split ! $
-        rewrite ! 0 (λ (vs : List Val). ‵ (ShrSlice ℓ′ κ′ u8 .own (at-list δ ys) vs)) (sym (spelled ys long)) refl $
-        at-once ! $ show ! (λ (δ′ : GName). sep 𝓤 (sem 𝓤 H A (ShrSlice ℓ′ κ′ u8 .own (at-list δ′ ys) vals)) (sem 𝓤 H A (SharedAgain ys))) δ $ frame ! $
+        use1 W (later (some (λ (δ : GName). ‵ (ShrSlice ℓ′ κ′ u8 .own (slice-at b o δ ys) (sliceVal (b, o) (length ys) ∷ [])) ⊛ ‵ (flent κ′ (arr-parts (shares u8) (length ys) .part fullShare ys b o))))) (lends-shr-slice 𝓤 H A W u8 ℓ′ κ′ fullShare ys b o (p .1)) $ await ! tt $ pick ! (λ δ. split ! $
+        rewrite ! 0 (λ (vs : List Val). ‵ (ShrSlice ℓ′ κ′ u8 .own (slice-at b o δ ys) vs)) (sym (spelled ys long)) refl $
+        at-once ! $ show ! (λ (δ′ : GName). sep 𝓤 (sem 𝓤 H A (ShrSlice ℓ′ κ′ u8 .own (slice-at b o δ′ ys) vals)) (sem 𝓤 H A (SharedAgain ys))) δ $ frame ! $
         move ! (2 ∷ 3 ∷ []) $ fjoin ! $ move ! (2 ∷ 0 ∷ []) $ fjoin ! $ move ! (1 ∷ 0 ∷ []) $ fjoin ! $ done !))
 
-    pub unshared : Room u8 (length ys) → ent 𝓤 (sep 𝓤 (A .dead κ′) (sem 𝓤 H A (SharedAgain ys))) (H .⇛ (sep 𝓤 (sem 𝓤 H A (MutSlice ℓ κ u8 .own (at-list γ ys) vals)) (A .lft κ q)))
+    pub unshared : Room u8 (length ys) → ent 𝓤 (sep 𝓤 (A .dead κ′) (sem 𝓤 H A (SharedAgain ys))) (H .⇛ (sep 𝓤 (sem 𝓤 H A (MutSlice ℓ κ u8 .own (slice-at b o γ ys) vals)) (A .lft κ q)))
     unshared room =
         qed W (‵ (fdead κ′) ∷ ‵ (SharedAgain ys) ∷ []) ∵ updating ! $ move ! (1 ∷ []) $ fsplit ! $ move ! (2 ∷ 0 ∷ []) $ lent-back ! tt $ fsplit ! $ drop ! $
-        use2 W (later (‵ (MutSlice ℓ κ u8 .own (at-list γ ys) vals) ⊛ ‵ (flft κ q))) (closed ys refl room) $ await ! tt $ split ! $ at-once ! $ done !
+        use2 W (later (‵ (MutSlice ℓ κ u8 .own (slice-at b o γ ys) vals) ⊛ ‵ (flft κ q))) (closed ys refl room) $ await ! tt $ split ! $ at-once ! $ done !

@@ -4,3 +4,4 @@ pub mod Unique
 pub mod Sequence
 pub mod Lending
 pub mod Calling
+pub mod Commands
