@@ -58,7 +58,7 @@ abbrev pub Read : {M : Type 1} (𝓤 : URA M) (H : Heap 𝓤) (A : Atoms 𝓤) (
 Read 𝓤 H A mem run = tripleOf 𝓤 H A read.signature (read.spec 𝓤 H A mem run)
 
 module _ {M : Type 1} (𝓤 : URA M) (H : Heap 𝓤) (A : Atoms 𝓤) (W : Given 𝓤 H A) (mem : Memory → SProp 𝓤) (run : Routine → Fun 𝓤)
-  (l : ℕ) (κ κ₁ : Lft) (q q₁ : Share) (γ : GName) (b o n : ℕ) where
+    (l : ℕ) (κ κ₁ : Lft) (q q₁ : Share) (γ : GName) (b o n : ℕ) where
   -- the flash, at a list of n bytes
   abbrev pub Flash : List ℕ → Fml
   Flash ys = MutSlice (named 0) κ u8 .own (slice-at b o γ ys) (sliceVal (b, o) n ∷ [])
@@ -82,9 +82,16 @@ module _ {M : Type 1} (𝓤 : URA M) (H : Heap 𝓤) (A : Atoms 𝓤) (W : Given
 
     -- what `write_bulk`'s triple binds outside
     abbrev pub to-write : Names → Write 𝓤 H A mem run .Ghost
-    to-write z =
-        (((z .0 ∷ [], (z .1 ∷ [], (κ₁, tt))), (fullShare, (fullShare, (q₁, tt))), tt, (record-at l (z .2) h, (slice-at b o (z .3) ys, (p, tt))),
-        (vptr l 0 ∷ [], (sliceVal (b, o) n ∷ [], (bytes ∷ [], tt)))), tt)
+    to-write z = (
+      (
+        (z .0 ∷ [], (z .1 ∷ [], (κ₁, tt))),
+        (fullShare, (fullShare, (q₁, tt))),
+        tt,
+        (record-at l (z .2) h, (slice-at b o (z .3) ys, (p, tt))),
+        (vptr l 0 ∷ [], (sliceVal (b, o) n ∷ [], (bytes ∷ [], tt))),
+      ),
+      tt,
+    )
 
     -- what the caller keeps meanwhile
     abbrev pub LentWrite : Names → Fml
@@ -152,9 +159,16 @@ module _ {M : Type 1} (𝓤 : URA M) (H : Heap 𝓤) (A : Atoms 𝓤) (W : Given
       setting = LL.val D.the-type D′.the-laws config
 
       abbrev pub to-read : Names → Read 𝓤 H A mem run .Ghost
-      to-read z =
-          (((z .0 ∷ [], (z .1 ∷ [], (κ₁, tt))), (fullShare, (fullShare, (q₁, tt))), tt, (record-at l (z .2) h, (config, (slice-at b o (z .3) ys, (p, tt)))),
-          (vptr l 0 ∷ [], (setting ∷ [], (sliceVal (b, o) n ∷ [], (bytes ∷ [], tt))))), tt)
+      to-read z = (
+        (
+          (z .0 ∷ [], (z .1 ∷ [], (κ₁, tt))),
+          (fullShare, (fullShare, (q₁, tt))),
+          tt,
+          (record-at l (z .2) h, (config, (slice-at b o (z .3) ys, (p, tt)))),
+          (vptr l 0 ∷ [], (setting ∷ [], (sliceVal (b, o) n ∷ [], (bytes ∷ [], tt)))),
+        ),
+        tt,
+      )
 
       abbrev pub LentRead : Names → Fml
       LentRead z = fsep (LentRecord (z .0 ∷ []) l (z .2)) (SharedAgain κ (z .1 ∷ []) q γ b o ys)

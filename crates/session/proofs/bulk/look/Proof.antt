@@ -33,6 +33,7 @@ use denote.Exit.{yes}
 use Rattle.transaction.specs.declared.session.Session.{Session}
 use Rattle.transaction.proofs.session.Session as T
 use Rattle.transaction.proofs.session.Session.Laws as T′
+use Rattle.session.proofs.Stepped.{val}
 use Rattle.session.proofs.bulk.look.Key.{name as #own}
 use Rattle.session.proofs.bulk.look as F
 use Rattle.session.proofs.bulk.look.Statement as stated
@@ -40,10 +41,6 @@ use Rattle.session.proofs.bulk.look.Code as code
 
 abbrev stayed : Stays (F.ended .signature .params) (F.ended .kept)
 stayed = (stay-none-ref (0 ∷ []) tt (plain (λ _. T.the-row)) yes, tt)
-
--- the machine value of the record
-abbrev val : Session → Val
-val = LL.val T.the-type T′.the-laws
 
 module _ {M : Type 1} (𝓤 : URA M) (H : Heap 𝓤) (A : Atoms 𝓤) (W : Given 𝓤 H A) (mem : Memory → SProp 𝓤) (run : Routine → Fun 𝓤) (κ : Lft) (q : Share) (b o : ℕ) (γ : GName) (h : Session) where
   abbrev x : RefT Session × Unit {0}

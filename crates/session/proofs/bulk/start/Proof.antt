@@ -29,7 +29,7 @@ use denote.Builtin.{u8}
 use denote.Ref.{RefT, MutRef, ptr-vals, mut-tells}
 use denote.Slice.{sliceVal, ShrSlice, Room, slice-vals, shr-slice-tells}
 use denote.Signature.{plain, shrSliceOf}
-use denote.Steps.{only, opens, closes, owned, peeks, facts, heard, nothing}
+use denote.Steps.{opens, closes, owned, peeks, facts, heard, nothing}
 use denote.Struct.Steps.{spelt}
 use denote.Struct.Laws as LL
 use denote.Triple.Entry.{onEntry}
@@ -48,12 +48,13 @@ use Rattle.transaction.proofs.session.Session as T
 use Rattle.transaction.proofs.session.Session.Laws as T′
 use Rattle.mock.proofs.steps.SessionStep as Rec
 use Rattle.mock.proofs.steps.SessionStep.Laws as Rec′
-use Rattle.answer.proofs.error.MockAnswer as D·MockAnswer
-use Rattle.answer.proofs.error.MockAnswer.Laws as D·MockAnswer′
+use Rattle.answer.proofs.error.MockAnswer as N
+use Rattle.answer.proofs.error.MockAnswer.Laws as N′
 use Rattle.session.proofs.record.start_step as step
 use Rattle.session.proofs.record.start_step.Symbol as step-def
 use Rattle.session.proofs.record.start_step.Symbol.{name as #callee}
 use Rattle.session.proofs.record.start_step.Met as step-thm
+use Rattle.session.proofs.Stepped.{val, ans, answer-is, session-is, stepped, answer-field, session-field}
 use Rattle.session.proofs.bulk.start.Key.{name as #own}
 use Rattle.session.proofs.bulk.start as F
 use Rattle.session.proofs.bulk.start.Statement as stated
@@ -61,17 +62,6 @@ use Rattle.session.proofs.bulk.start.Code as code
 
 abbrev stayed : Stays (F.ended .signature .params) (F.ended .kept)
 stayed = (stay-ref (0 ∷ []) tt (plain (λ _. T.the-row)), (stay-dropped (shrSliceOf (1 ∷ []) tt (plain (λ _. u8))) yes, tt))
-
--- the machine value of a record that is lent
-abbrev val : Session → Val
-val = LL.val T.the-type T′.the-laws
-
--- what whoever holds a `SessionStep` knows of its answer, and of its session
-answer-is : (r : SessionStep) (w : Val) → Is Rec.the-row r (w ∷ []) → Is D·MockAnswer.the-row (r .answer) (LL.val D·MockAnswer.the-type D·MockAnswer′.the-laws (r .answer) ∷ [])
-answer-is r w is = LL.owed Rec.the-type Rec′.the-laws r (w ∷ []) is .0
-
-session-is : (r : SessionStep) (w : Val) → Is Rec.the-row r (w ∷ []) → Is T.the-row (r .session) (val (r .session) ∷ [])
-session-is r w is = LL.owed Rec.the-type Rec′.the-laws r (w ∷ []) is .1 .0
 
 -- the contract that the proof cites
 abbrev Step : {M : Type 1} (𝓤 : URA M) (H : Heap 𝓤) (A : Atoms 𝓤) (mem : Memory → SProp 𝓤) (run : Routine → Fun 𝓤) → Contract 𝓤
@@ -105,11 +95,11 @@ module _ {M : Type 1} (𝓤 : URA M) (H : Heap 𝓤) (A : Atoms 𝓤) (W : Given
   goes-step is =
       qed W ((‵ (flft κ₁ q₁) ⊛ ‵ ftrue) ∷ ‵ (owns (ShrSlice (named 1) κ₁ u8 ∷ []) (p1, tt) (sliceVal (p1 .ptr) (length (p1 .now)) ∷ [], tt)) ∷ []) ∵ move ! (1 ∷ []) $ owned ! T.the-row (Is T.the-row) (LL.makes T.the-type T′.the-plain 𝓤 H A) h _ is $ fjoin ! $ move ! (1 ∷ 0 ∷ []) $ join ! $ frame ! $ done !
 
-  exits : (r : SessionStep) (w : Val) → Is Rec.the-row r (w ∷ []) → Ensured h p1 r → ent 𝓤 (⋆ 𝓤 H A (‵ (fobs γ (T.the-row .coded .code (r .session))) ∷ ‵ (fbor κ (Body (mem T.the-row) b o γ)) ∷ ‵ (flft κ q) ∷ (‵ (flft κ₁ q₁) ⊛ ‵ ftrue) ∷ [])) (Post (LL.val D·MockAnswer.the-type D·MockAnswer′.the-laws (r .answer)))
+  exits : (r : SessionStep) (w : Val) → Is Rec.the-row r (w ∷ []) → Ensured h p1 r → ent 𝓤 (⋆ 𝓤 H A (‵ (fobs γ (T.the-row .coded .code (r .session))) ∷ ‵ (fbor κ (Body (mem T.the-row) b o γ)) ∷ ‵ (flft κ q) ∷ (‵ (flft κ₁ q₁) ⊛ ‵ ftrue) ∷ [])) (Post (ans (r .answer)))
   exits r w is e =
       qed W (‵ (fobs γ (T.the-row .coded .code (r .session))) ∷ ‵ (fbor κ (Body (mem T.the-row) b o γ)) ∷ ‵ (flft κ q) ∷ (‵ (flft κ₁ q₁) ⊛ ‵ ftrue) ∷ []) ∵
-      suffices ! _ (ends-at 𝓤 H A F.ended stayed (F.clauses 𝓤 H A at-mem run) W y (LL.val D·MockAnswer.the-type D·MockAnswer′.the-laws (r .answer)) (r .answer) ((r .session), (tt, tt)) (tt, (tt, tt))) $ says ! (record { tells = e .tells; next = e .next; leaves = e .leaves }) $
-      move ! (2 ∷ 3 ∷ []) $ join ! $ frame ! $ move ! (0 ∷ 1 ∷ []) $ feqI ! (List Val) (vptr b o ∷ []) (vptr b o ∷ []) refl $ fjoin3 ! $ nothing ! $ nothing ! $ fjoin ! $ move ! (1 ∷ 0 ∷ []) $ fjoin ! $ owned ! D·MockAnswer.the-row (Is D·MockAnswer.the-row) (LL.makes D·MockAnswer.the-type D·MockAnswer′.the-plain 𝓤 H A) (r .answer) _ (answer-is r w is) $ move ! (1 ∷ 0 ∷ []) $ done !
+      suffices ! _ (ends-at 𝓤 H A F.ended stayed (F.clauses 𝓤 H A at-mem run) W y (ans (r .answer)) (r .answer) ((r .session), (tt, tt)) (tt, (tt, tt))) $ says ! (record { tells = e .tells; next = e .next; leaves = e .leaves }) $
+      move ! (2 ∷ 3 ∷ []) $ join ! $ frame ! $ move ! (0 ∷ 1 ∷ []) $ feqI ! (List Val) (vptr b o ∷ []) (vptr b o ∷ []) refl $ fjoin3 ! $ nothing ! $ nothing ! $ fjoin ! $ move ! (1 ∷ 0 ∷ []) $ fjoin ! $ owned ! N.the-row (Is N.the-row) (LL.makes N.the-type N′.the-plain 𝓤 H A) (r .answer) _ (answer-is r w is) $ move ! (1 ∷ 0 ∷ []) $ done !
 
   module _ (C : Calls 𝓤 H) (Λ : Loops 𝓤 H) (fm : FmC 𝓤 H (W .laws) C) (known : Triple 𝓤 (C #callee) (Step 𝓤 H A at-mem run)) where
     walk : ent 𝓤 (onEntry 𝓤 H A F.signature (κ, (κ₁, tt)) (q, (q₁, tt)) a vals) (WpFn 𝓤 H C Λ code.function (vptr b o ∷ sliceVal (p1 .ptr) (length (p1 .now)) ∷ []) Post)
@@ -131,9 +121,9 @@ module _ {M : Type 1} (𝓤 : URA M) (H : Heap 𝓤) (A : Atoms 𝓤) (W : Given
         split ! $ move ! (1 ∷ []) $ heard ! (Ensured h p1 r) (λ e.
         move ! (1 ∷ []) $ split ! $ move ! (1 ∷ []) $ facts ! Rec.the-row (Is Rec.the-row) (shows 𝓤 H A Rec.the-row) r (w ∷ []) (λ is.
         -- [toks; lasts; cell0; own0; open0; obs0; auth0; _4; _3; _2; _1; _0]
-        land ! (from ! (stop !)) (init ! 9 refl (LL.lawful Rec.the-type Rec′.the-laws 𝓤 H A W .typed r _ is .0)) $ rewrite ! 9 (λ (u : Val). ‵ (fat fullShare Rec′.mir l3 0 u)) (ap only (LL.tells Rec.the-type Rec′.the-laws r _ is)) refl $
-        assigns ! (of-opd ! (load ! (from ! (fld ! refl (stop !))) (look-in ! 9 (sub ! 1 refl (whole !))))) (from ! (hop ! (look ! 13 refl) (stop !))) (store-raw ! 2 refl (LL.lawful T.the-type T′.the-laws 𝓤 H A W .typed (r .session) _ (session-is r w is) .0)) $
-        assigns ! (of-opd ! (load ! (from ! (fld ! refl (stop !))) (look-in ! 9 (sub ! 0 refl (whole !))))) (from ! (stop !)) (init ! 15 refl (LL.lawful D·MockAnswer.the-type D·MockAnswer′.the-laws 𝓤 H A W .typed (r .answer) _ (answer-is r w is) .0)) $
+        land ! (from ! (stop !)) (init ! 9 refl (LL.lawful Rec.the-type Rec′.the-laws 𝓤 H A W .typed r _ is .0)) $ rewrite ! 9 (λ (u : Val). ‵ (fat fullShare Rec′.mir l3 0 u)) (stepped r w is) refl $
+        assigns ! (of-opd ! (load ! (from ! (fld ! session-field (stop !))) (look-in ! 9 (sub ! 1 session-field (whole !))))) (from ! (hop ! (look ! 13 refl) (stop !))) (store-raw ! 2 refl (LL.lawful T.the-type T′.the-laws 𝓤 H A W .typed (r .session) _ (session-is r w is) .0)) $
+        assigns ! (of-opd ! (load ! (from ! (fld ! answer-field (stop !))) (look-in ! 9 (sub ! 0 answer-field (whole !))))) (from ! (stop !)) (init ! 15 refl (LL.lawful N.the-type N′.the-laws 𝓤 H A W .typed (r .answer) _ (answer-is r w is) .0)) $
         -- the borrow is closed at the new record
         move ! (3 ∷ []) $ drop ! $ owned ! T.the-row (Is T.the-row) (LL.makes T.the-type T′.the-plain 𝓤 H A) (r .session) _ (session-is r w is) $ move ! (3 ∷ 0 ∷ 4 ∷ 5 ∷ 6 ∷ []) $ closes ! tt T.the-row (r .session) (val (r .session) ∷ []) b o $
         -- [obs0; bor0; tok0; toks; lasts; _4; _3; _2; _1; _0]

@@ -1,7 +1,7 @@
 -- `session::bulk::write_bulk` meets its contract: a walk of its MIR. The borrow is opened; the record behind it is copied and passed to `write_step`; what that returns is stored behind the reference, and the borrow is closed at it.
 -- All that the proof knows of `write_step` is that it meets its contract. It looks into no field and no variant.
 -- Assumes nothing.
-use mathlib.Core.Path.{_≡_, refl, ap}
+use mathlib.Core.Path.{_≡_, refl}
 use Prim.Native.Nat.{ℕ}
 use mathlib.Core.List.{[], _∷_, List}
 use lib.ListN.{length}
@@ -29,7 +29,7 @@ use denote.Builtin.{u8}
 use denote.Ref.{RefT, MutRef, ptr-vals, mut-tells}
 use denote.Slice.{sliceVal, MutSlice, ShrSlice, Room, finally, slice-vals, mut-slice-tells, shr-slice-tells}
 use denote.Signature.{plain, shrSliceOf}
-use denote.Steps.{only, opens, closes, owned, peeks, facts, heard, nothing}
+use denote.Steps.{opens, closes, owned, peeks, facts, heard, nothing}
 use denote.Struct.Steps.{spelt}
 use denote.Struct.Laws as LL
 use denote.Triple.Entry.{onEntry}
@@ -47,12 +47,13 @@ use Rattle.transaction.proofs.session.Session as T
 use Rattle.transaction.proofs.session.Session.Laws as T′
 use Rattle.mock.proofs.steps.SessionStep as Rec
 use Rattle.mock.proofs.steps.SessionStep.Laws as Rec′
-use Rattle.answer.proofs.error.MockAnswer as D·MockAnswer
-use Rattle.answer.proofs.error.MockAnswer.Laws as D·MockAnswer′
+use Rattle.answer.proofs.error.MockAnswer as N
+use Rattle.answer.proofs.error.MockAnswer.Laws as N′
 use Rattle.mock.proofs.steps.write_step as step
 use Rattle.mock.proofs.steps.write_step.Symbol as step-def
 use Rattle.mock.proofs.steps.write_step.Symbol.{name as #callee}
 use Rattle.mock.proofs.steps.write_step.Met as step-thm
+use Rattle.session.proofs.Stepped.{val, ans, answer-is, session-is, stepped, answer-field, session-field}
 use Rattle.session.proofs.bulk.write_bulk.Key.{name as #own}
 use Rattle.session.proofs.bulk.write_bulk as F
 use Rattle.session.proofs.bulk.write_bulk.Statement as stated
@@ -60,17 +61,6 @@ use Rattle.session.proofs.bulk.write_bulk.Code as code
 
 abbrev stayed : Stays (F.ended .signature .params) (F.ended .kept)
 stayed = (stay-ref (0 ∷ []) tt (plain (λ _. T.the-row)), (gave-slice (1 ∷ []) tt (plain (λ _. u8)), (stay-dropped (shrSliceOf (2 ∷ []) tt (plain (λ _. u8))) yes, tt)))
-
--- the machine value of a record that is lent
-abbrev val : Session → Val
-val = LL.val T.the-type T′.the-laws
-
--- what whoever holds a `SessionStep` knows of its answer, and of its session
-answer-is : (r : SessionStep) (w : Val) → Is Rec.the-row r (w ∷ []) → Is D·MockAnswer.the-row (r .answer) (LL.val D·MockAnswer.the-type D·MockAnswer′.the-laws (r .answer) ∷ [])
-answer-is r w is = LL.owed Rec.the-type Rec′.the-laws r (w ∷ []) is .0
-
-session-is : (r : SessionStep) (w : Val) → Is Rec.the-row r (w ∷ []) → Is T.the-row (r .session) (val (r .session) ∷ [])
-session-is r w is = LL.owed Rec.the-type Rec′.the-laws r (w ∷ []) is .1 .0
 
 -- the contract that the proof cites
 abbrev Step : {M : Type 1} (𝓤 : URA M) (H : Heap 𝓤) (A : Atoms 𝓤) (mem : Memory → SProp 𝓤) (run : Routine → Fun 𝓤) → Contract 𝓤
@@ -104,11 +94,11 @@ module _ {M : Type 1} (𝓤 : URA M) (H : Heap 𝓤) (A : Atoms 𝓤) (W : Given
   goes-step is =
       qed W ((‵ (flft κ₁ q₁) ⊛ ‵ (flft κ₂ q₂) ⊛ ‵ ftrue) ∷ ‵ (owns (MutSlice (named 1) κ₁ u8 ∷ ShrSlice (named 2) κ₂ u8 ∷ []) (p1, (p2, tt)) (sliceVal (p1 .ptr) (length (p1 .now)) ∷ [], (sliceVal (p2 .ptr) (length (p2 .now)) ∷ [], tt))) ∷ []) ∵ move ! (1 ∷ []) $ owned ! T.the-row (Is T.the-row) (LL.makes T.the-type T′.the-plain 𝓤 H A) h _ is $ fjoin ! $ move ! (1 ∷ 0 ∷ []) $ join ! $ frame ! $ done !
 
-  exits : (r : SessionStep) (w : Val) → Is Rec.the-row r (w ∷ []) → (z1 : List ℕ) → (l1 : length z1 ≡ length (p1 .now)) → Ensured h p1 p2 r z1 → ent 𝓤 (⋆ 𝓤 H A (‵ (fobs γ (T.the-row .coded .code (r .session))) ∷ ‵ (fbor κ (Body (mem T.the-row) b o γ)) ∷ ‵ (flft κ q) ∷ (‵ (flft κ₁ q₁) ⊛ ‵ (flft κ₂ q₂) ⊛ ‵ ftrue) ∷ ‵ (finally u8 (p1 .name) z1) ∷ [])) (Post (LL.val D·MockAnswer.the-type D·MockAnswer′.the-laws (r .answer)))
+  exits : (r : SessionStep) (w : Val) → Is Rec.the-row r (w ∷ []) → (z1 : List ℕ) → (l1 : length z1 ≡ length (p1 .now)) → Ensured h p1 p2 r z1 → ent 𝓤 (⋆ 𝓤 H A (‵ (fobs γ (T.the-row .coded .code (r .session))) ∷ ‵ (fbor κ (Body (mem T.the-row) b o γ)) ∷ ‵ (flft κ q) ∷ (‵ (flft κ₁ q₁) ⊛ ‵ (flft κ₂ q₂) ⊛ ‵ ftrue) ∷ ‵ (finally u8 (p1 .name) z1) ∷ [])) (Post (ans (r .answer)))
   exits r w is z1 l1 e =
       qed W (‵ (fobs γ (T.the-row .coded .code (r .session))) ∷ ‵ (fbor κ (Body (mem T.the-row) b o γ)) ∷ ‵ (flft κ q) ∷ (‵ (flft κ₁ q₁) ⊛ ‵ (flft κ₂ q₂) ⊛ ‵ ftrue) ∷ ‵ (finally u8 (p1 .name) z1) ∷ []) ∵
-      suffices ! _ (ends-at 𝓤 H A F.ended stayed (F.clauses 𝓤 H A at-mem run) W y (LL.val D·MockAnswer.the-type D·MockAnswer′.the-laws (r .answer)) (r .answer) ((r .session), (z1, (tt, tt))) (tt, (l1, (tt, tt)))) $ says ! (record { tells = e .tells; next = e .next; leaves = e .leaves }) $
-      move ! (2 ∷ 3 ∷ []) $ join ! $ frame ! $ move ! (0 ∷ 1 ∷ []) $ feqI ! (List Val) (vptr b o ∷ []) (vptr b o ∷ []) refl $ fjoin3 ! $ nothing ! $ nothing ! $ fjoin ! $ move ! (2 ∷ 0 ∷ []) $ fjoin ! $ move ! (1 ∷ 0 ∷ []) $ fjoin ! $ owned ! D·MockAnswer.the-row (Is D·MockAnswer.the-row) (LL.makes D·MockAnswer.the-type D·MockAnswer′.the-plain 𝓤 H A) (r .answer) _ (answer-is r w is) $ move ! (1 ∷ 0 ∷ []) $ done !
+      suffices ! _ (ends-at 𝓤 H A F.ended stayed (F.clauses 𝓤 H A at-mem run) W y (ans (r .answer)) (r .answer) ((r .session), (z1, (tt, tt))) (tt, (l1, (tt, tt)))) $ says ! (record { tells = e .tells; next = e .next; leaves = e .leaves }) $
+      move ! (2 ∷ 3 ∷ []) $ join ! $ frame ! $ move ! (0 ∷ 1 ∷ []) $ feqI ! (List Val) (vptr b o ∷ []) (vptr b o ∷ []) refl $ fjoin3 ! $ nothing ! $ nothing ! $ fjoin ! $ move ! (2 ∷ 0 ∷ []) $ fjoin ! $ move ! (1 ∷ 0 ∷ []) $ fjoin ! $ owned ! N.the-row (Is N.the-row) (LL.makes N.the-type N′.the-plain 𝓤 H A) (r .answer) _ (answer-is r w is) $ move ! (1 ∷ 0 ∷ []) $ done !
 
   module _ (C : Calls 𝓤 H) (Λ : Loops 𝓤 H) (fm : FmC 𝓤 H (W .laws) C) (known : Triple 𝓤 (C #callee) (Step 𝓤 H A at-mem run)) where
     walk : ent 𝓤 (onEntry 𝓤 H A F.signature (κ, (κ₁, (κ₂, tt))) (q, (q₁, (q₂, tt))) a vals) (WpFn 𝓤 H C Λ code.function (vptr b o ∷ sliceVal (p1 .ptr) (length (p1 .now)) ∷ sliceVal (p2 .ptr) (length (p2 .now)) ∷ []) Post)
@@ -133,9 +123,9 @@ module _ {M : Type 1} (𝓤 : URA M) (H : Heap 𝓤) (A : Atoms 𝓤) (W : Given
         fsplit ! $ move ! (1 ∷ []) $ fsplit ! $ fsplit ! $ move ! (1 ∷ []) $ feqL ! (λ l1.
         move ! (3 ∷ []) $ split ! $ move ! (1 ∷ []) $ facts ! Rec.the-row (Is Rec.the-row) (shows 𝓤 H A Rec.the-row) r (w ∷ []) (λ is.
         -- [toks; last0; more; ·0; cell0; own0; open0; obs0; auth0; _7; _6; _5; _4; _3; _2; _1; _0]
-        land ! (from ! (stop !)) (init ! 15 refl (LL.lawful Rec.the-type Rec′.the-laws 𝓤 H A W .typed r _ is .0)) $ rewrite ! 15 (λ (u : Val). ‵ (fat fullShare Rec′.mir l4 0 u)) (ap only (LL.tells Rec.the-type Rec′.the-laws r _ is)) refl $
-        assigns ! (of-opd ! (load ! (from ! (fld ! refl (stop !))) (look-in ! 15 (sub ! 1 refl (whole !))))) (from ! (hop ! (look ! 21 refl) (stop !))) (store-raw ! 4 refl (LL.lawful T.the-type T′.the-laws 𝓤 H A W .typed (r .session) _ (session-is r w is) .0)) $
-        assigns ! (of-opd ! (load ! (from ! (fld ! refl (stop !))) (look-in ! 15 (sub ! 0 refl (whole !))))) (from ! (stop !)) (init ! 23 refl (LL.lawful D·MockAnswer.the-type D·MockAnswer′.the-laws 𝓤 H A W .typed (r .answer) _ (answer-is r w is) .0)) $
+        land ! (from ! (stop !)) (init ! 15 refl (LL.lawful Rec.the-type Rec′.the-laws 𝓤 H A W .typed r _ is .0)) $ rewrite ! 15 (λ (u : Val). ‵ (fat fullShare Rec′.mir l4 0 u)) (stepped r w is) refl $
+        assigns ! (of-opd ! (load ! (from ! (fld ! session-field (stop !))) (look-in ! 15 (sub ! 1 session-field (whole !))))) (from ! (hop ! (look ! 21 refl) (stop !))) (store-raw ! 4 refl (LL.lawful T.the-type T′.the-laws 𝓤 H A W .typed (r .session) _ (session-is r w is) .0)) $
+        assigns ! (of-opd ! (load ! (from ! (fld ! answer-field (stop !))) (look-in ! 15 (sub ! 0 answer-field (whole !))))) (from ! (stop !)) (init ! 23 refl (LL.lawful N.the-type N′.the-laws 𝓤 H A W .typed (r .answer) _ (answer-is r w is) .0)) $
         -- the borrow is closed at the new record
         move ! (5 ∷ []) $ drop ! $ owned ! T.the-row (Is T.the-row) (LL.makes T.the-type T′.the-plain 𝓤 H A) (r .session) _ (session-is r w is) $ move ! (5 ∷ 0 ∷ 6 ∷ 7 ∷ 8 ∷ []) $ closes ! tt T.the-row (r .session) (val (r .session) ∷ []) b o $
         -- [obs0; bor0; tok0; toks; last0; more; ·0; _7; _6; _5; _4; _3; _2; _1; _0]
@@ -162,4 +152,3 @@ write-bulk-spec 𝓤 H 𝓜 𝓖 𝓡 =
     (tables 𝓤 H 𝓜 𝓡 code.env .C) (tables 𝓤 H 𝓜 𝓡 code.env .Λ) #own code.function (code.unfolded 𝓤 H 𝓜 𝓡)
     (meets 𝓤 H (𝓖 .A) (givenOf 𝓤 H 𝓜 𝓖) (𝓜 .mem) (𝓡 .run) (tablesOf 𝓤 H 𝓜 (tables 𝓤 H 𝓜 𝓡 code.env))
     (cited 𝓤 H (Step 𝓤 H (𝓖 .A) (𝓜 .mem) (𝓡 .run)) 𝓜 𝓡 code.env #callee step-def.routine code.calls-mock·steps·write-step (step-thm.met 𝓤 H 𝓜 𝓖 𝓡)))
-

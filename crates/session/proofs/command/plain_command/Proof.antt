@@ -45,12 +45,12 @@ use Rattle.mock.specs.declared.config.MockDeviceConfig.{MockDeviceConfig}
 use Rattle.mock.proofs.config.MockDeviceConfig as D
 use Rattle.mock.proofs.config.MockDeviceConfig.Laws as D′
 use Rattle.session.specs.Calls.{write, read, callsBy, CallsMeet}
-use Rattle.session.specs.declared.command.Plain.{Plain}
 use Rattle.session.proofs.command.Plain as Rec
 use Rattle.session.proofs.command.Plain.Laws as Rec′
-use Rattle.session.proofs.Lending.{val, Known, slice-at}
+use Rattle.session.proofs.Stepped.{val, answered}
+use Rattle.session.proofs.Lending.{Known, slice-at}
 use Rattle.session.proofs.Calling.{Write, Read, writes, reads}
-use Rattle.session.proofs.Commands.{plain-ends}
+use Rattle.session.proofs.Commands.{plain-ends, plain-of, plain-val, plain-is}
 use Rattle.session.proofs.bulk.write_bulk.Symbol as write-def
 use Rattle.session.proofs.bulk.write_bulk.Symbol.{name as #write}
 use Rattle.session.proofs.bulk.write_bulk.Met as write-thm
@@ -65,16 +65,8 @@ use Rattle.session.proofs.command.plain_command.Code as code
 abbrev stayed : Stays (F.ended .signature .params) (F.ended .kept)
 stayed = (stay-dropped (plain (λ _. T.the-row)) yes, (stay-dropped (plain (λ _. D.the-row)) yes, (stay-slice (0 ∷ []) tt (plain (λ _. u8)), (stay-dropped (shrSliceOf (1 ∷ []) tt (plain (λ _. u8))) yes, (gave-slice (2 ∷ []) tt (plain (λ _. u8)), tt)))))
 
--- the machine value of an answer
-abbrev ans : MockAnswer → Val
-ans = LL.val N.the-type N′.the-laws
-
--- an answer's machine value is that
-spelled : (r : MockAnswer) (w : Val) → Is N.the-row r (w ∷ []) → Is N.the-row r (ans r ∷ [])
-spelled r w is = subst (Is N.the-row r) (LL.tells N.the-type N′.the-laws r (w ∷ []) is) is
-
 module _ {M : Type 1} (𝓤 : URA M) (H : Heap 𝓤) (A : Atoms 𝓤) (W : Given 𝓤 H A) (mem : Memory → SProp 𝓤) (run : Routine → Fun 𝓤) (κ κ₁ κ₂ : Lft) (q q₁ q₂ : Share) (h : Session) (h-is : Known h) (c : MockDeviceConfig)
-  (c-is : Is D.the-row c (LL.val D.the-type D′.the-laws c ∷ [])) (b o : ℕ) (γ : GName) (ys : List ℕ) (room : Room u8 (length ys)) (p₁ p₂ : RefT (List ℕ)) (room₁ : Room u8 (length (p₁ .now))) (room₂ : Room u8 (length (p₂ .now))) where
+    (c-is : Is D.the-row c (LL.val D.the-type D′.the-laws c ∷ [])) (b o : ℕ) (γ : GName) (ys : List ℕ) (room : Room u8 (length ys)) (p₁ p₂ : RefT (List ℕ)) (room₁ : Room u8 (length (p₁ .now))) (room₂ : Room u8 (length (p₂ .now))) where
   abbrev setting : Val
   setting = LL.val D.the-type D′.the-laws c
 
@@ -93,26 +85,16 @@ module _ {M : Type 1} (𝓤 : URA M) (H : Heap 𝓤) (A : Atoms 𝓤) (W : Given
   abbrev Post : Val → SProp 𝓤
   Post = walkOf 𝓤 H A F.ended stayed (F.clauses 𝓤 H A mem run) .post y
 
-  -- what is returned, and that its fields are what they should be
-  abbrev result : MockAnswer → MockAnswer → Session → Plain
-  result r₁ r₂ s = record { command = r₁; status = r₂; session = s }
-
-  abbrev mach : MockAnswer → MockAnswer → Session → Val
-  mach r₁ r₂ s = LL.val Rec.the-type Rec′.the-laws (result r₁ r₂ s)
-
-  made : (r₁ r₂ : MockAnswer) (s : Session) → Is N.the-row r₁ (ans r₁ ∷ []) → Is N.the-row r₂ (ans r₂ ∷ []) → Known s → Is Rec.the-row (result r₁ r₂ s) (mach r₁ r₂ s ∷ [])
-  made r₁ r₂ s is₁ is₂ is = LL.owes Rec.the-type Rec′.the-laws (result r₁ r₂ s) (is₁, (is₂, (is, tt)))
-
   abbrev Flash : List ℕ → Fml
   Flash zs = MutSlice (named 0) κ u8 .own (slice-at b o γ zs) (sliceVal (b, o) (length ys) ∷ [])
 
-  exits : (r₁ r₂ : MockAnswer) (s : Session) (ys′ z₂ : List ℕ) → Is Rec.the-row (result r₁ r₂ s) (mach r₁ r₂ s ∷ []) → length ys′ ≡ length ys → length z₂ ≡ length (p₂ .now)
+  exits : (r₁ r₂ : MockAnswer) (s : Session) (ys′ z₂ : List ℕ) → Is Rec.the-row (plain-of r₁ r₂ s) (plain-val (plain-of r₁ r₂ s) ∷ []) → length ys′ ≡ length ys → length z₂ ≡ length (p₂ .now)
       → CallsMeet (r₁ ∷ r₂ ∷ []) ([] ∷ z₂ ∷ []) s ys′ (callsBy (write (p₁ .now) ∷ read c (p₂ .now) ∷ []) h ys)
-      → ent 𝓤 (⋆ 𝓤 H A (‵ (flft κ q) ∷ ‵ (flft κ₁ q₁) ∷ ‵ (flft κ₂ q₂) ∷ ‵ (Flash ys′) ∷ ‵ (finally u8 (p₂ .name) z₂) ∷ [])) (Post (mach r₁ r₂ s))
+      → ent 𝓤 (⋆ 𝓤 H A (‵ (flft κ q) ∷ ‵ (flft κ₁ q₁) ∷ ‵ (flft κ₂ q₂) ∷ ‵ (Flash ys′) ∷ ‵ (finally u8 (p₂ .name) z₂) ∷ [])) (Post (plain-val (plain-of r₁ r₂ s)))
   exits r₁ r₂ s ys′ z₂ is long long₂ e =
       qed W (‵ (flft κ q) ∷ ‵ (flft κ₁ q₁) ∷ ‵ (flft κ₂ q₂) ∷ ‵ (Flash ys′) ∷ ‵ (finally u8 (p₂ .name) z₂) ∷ []) ∵
-      suffices ! _ (ends-at 𝓤 H A F.ended stayed (F.clauses 𝓤 H A mem run) W y (mach r₁ r₂ s) (result r₁ r₂ s) (tt, (tt, (ys′, (tt, (z₂, tt))))) (tt, (tt, (long, (tt, (long₂, tt)))))) $ says ! e $
-      nothing ! $ move ! (1 ∷ 2 ∷ 3 ∷ 0 ∷ []) $ group ! 4 $ frame ! $ nothing ! $ nothing ! $ nothing ! $ nothing ! $  move ! (0 ∷ 1 ∷ 4 ∷ 2 ∷ 5 ∷ 3 ∷ []) $ group ! 6 $ frame ! $ owned ! Rec.the-row (Is Rec.the-row) (LL.makes Rec.the-type Rec′.the-plain 𝓤 H A) (result r₁ r₂ s) _ is $ done !
+      suffices ! _ (ends-at 𝓤 H A F.ended stayed (F.clauses 𝓤 H A mem run) W y (plain-val (plain-of r₁ r₂ s)) (plain-of r₁ r₂ s) (tt, (tt, (ys′, (tt, (z₂, tt))))) (tt, (tt, (long, (tt, (long₂, tt)))))) $ says ! e $
+      nothing ! $ move ! (1 ∷ 2 ∷ 3 ∷ 0 ∷ []) $ group ! 4 $ frame ! $ nothing ! $ nothing ! $ nothing ! $ nothing ! $ move ! (0 ∷ 1 ∷ 4 ∷ 2 ∷ 5 ∷ 3 ∷ []) $ group ! 6 $ frame ! $ owned ! Rec.the-row (Is Rec.the-row) (LL.makes Rec.the-type Rec′.the-plain 𝓤 H A) (plain-of r₁ r₂ s) _ is $ done !
 
   module _ (C : Calls 𝓤 H) (Λ : Loops 𝓤 H) (fm : FmC 𝓤 H (W .laws) C) (known-write : Triple 𝓤 (C #write) (Write 𝓤 H A mem run)) (known-read : Triple 𝓤 (C #read) (Read 𝓤 H A mem run)) where
     walk : ent 𝓤 (onEntry 𝓤 H A F.signature (κ, (κ₁, (κ₂, tt))) (q, (q₁, (q₂, tt))) a vals) (WpFn 𝓤 H C Λ code.function (val h ∷ setting ∷ sliceVal (b, o) (length ys) ∷ sliceVal (p₁ .ptr) (length (p₁ .now)) ∷ sliceVal (p₂ .ptr) (length (p₂ .now)) ∷ []) Post)
@@ -138,10 +120,10 @@ module _ {M : Type 1} (𝓤 : URA M) (H : Heap 𝓤) (A : Atoms 𝓤) (W : Given
         land ! (from ! (stop !)) (init ! 26 refl (LL.lawful N.the-type N′.the-laws 𝓤 H A W .typed (t₂ .0) _ (told₂ .0 .1) .0)) $ rewrite ! 26 (λ (u : Val). ‵ (fat fullShare N′.mir l8 0 u)) (ap only (LL.tells N.the-type N′.the-laws (t₂ .0) _ (told₂ .0 .1))) refl $
         -- [_6; flash; tok0; tok2; last2; tok1; own_c; own_s; _17; _16; _15; _14; _13; _12; _11; _10; _9; _8; _7; _5; _4; _3; _2; _1; _0]
         assigns ! (of-opd ! (load ! (from ! (stop !)) (look ! 0 refl))) (from ! (stop !)) (init ! 8 refl (LL.lawful T.the-type T′.the-laws 𝓤 H A W .typed (t₂ .1) _ (told₂ .0 .2) .0)) $
-        assigns ! (agg ! (and-then ! (load ! (from ! (stop !)) (look ! 28 refl)) (and-then ! (load ! (from ! (stop !)) (look ! 26 refl)) (and-then ! (load ! (from ! (stop !)) (look ! 8 refl)) (no-more !))))) (from ! (stop !)) (init ! 41 refl (LL.lawful Rec.the-type Rec′.the-laws 𝓤 H A W .typed (result (t₁ .0) (t₂ .0) (t₂ .1)) _ (made (t₁ .0) (t₂ .0) (t₂ .1) (spelled (t₁ .0) w₁ (told₁ .0 .1)) (spelled (t₂ .0) w₂ (told₂ .0 .1)) (told₂ .0 .2)) .0)) $
+        assigns ! (agg ! (and-then ! (load ! (from ! (stop !)) (look ! 28 refl)) (and-then ! (load ! (from ! (stop !)) (look ! 26 refl)) (and-then ! (load ! (from ! (stop !)) (look ! 8 refl)) (no-more !))))) (from ! (stop !)) (init ! 41 refl (LL.lawful Rec.the-type Rec′.the-laws 𝓤 H A W .typed (plain-of (t₁ .0) (t₂ .0) (t₂ .1)) _ (plain-is (t₁ .0) (t₂ .0) (t₂ .1) (answered (t₁ .0) w₁ (told₁ .0 .1)) (answered (t₂ .0) w₂ (told₂ .0 .1)) (told₂ .0 .2)) .0)) $
         returns ! (look ! 41 refl) $ forget ! 8 refl $ forget ! 10 refl $ forget ! 12 refl $ forget ! 14 refl $ forget ! 16 refl $ forget ! 18 refl $ forget ! 20 refl $ forget ! 22 refl $ forget ! 24 refl $ forget ! 26 refl $ forget ! 28 refl $ forget ! 0 refl $ forget ! 31 refl $ forget ! 33 refl $ forget ! 35 refl $ forget ! 37 refl $ forget ! 39 refl $ forget ! 41 refl $
         move ! (41 ∷ 42 ∷ []) $ free1 ! $ move ! (39 ∷ 40 ∷ []) $ free1 ! $ move ! (37 ∷ 38 ∷ []) $ free1 ! $ move ! (35 ∷ 36 ∷ []) $ free1 ! $ move ! (33 ∷ 34 ∷ []) $ free1 ! $ move ! (31 ∷ 32 ∷ []) $ free1 ! $ move ! (0 ∷ 30 ∷ []) $ free1 ! $ move ! (27 ∷ 28 ∷ []) $ free1 ! $ move ! (25 ∷ 26 ∷ []) $ free1 ! $ move ! (23 ∷ 24 ∷ []) $ free1 ! $ move ! (21 ∷ 22 ∷ []) $ free1 ! $ move ! (19 ∷ 20 ∷ []) $ free1 ! $ move ! (17 ∷ 18 ∷ []) $ free1 ! $ move ! (15 ∷ 16 ∷ []) $ free1 ! $ move ! (13 ∷ 14 ∷ []) $ free1 ! $ move ! (11 ∷ 12 ∷ []) $ free1 ! $ move ! (9 ∷ 10 ∷ []) $ free1 ! $ move ! (7 ∷ 8 ∷ []) $ free1 ! $ free0 ! $
-        keep ! (1 ∷ 4 ∷ 2 ∷ 0 ∷ 3 ∷ []) $ by ! (exits (t₁ .0) (t₂ .0) (t₂ .1) (t₁ .2) (t₂ .2) (made (t₁ .0) (t₂ .0) (t₂ .1) (spelled (t₁ .0) w₁ (told₁ .0 .1)) (spelled (t₂ .0) w₂ (told₂ .0 .1)) (told₂ .0 .2)) (told₁ .1) (told₂ .1) (plain-ends c h (t₁ .1) (t₂ .1) ys (t₁ .2) (p₁ .now) (t₁ .0) (t₂ .0) (told₁ .0 .0) (p₂ .now) (t₂ .2) (told₂ .0 .0)))))))))))))))))))))))
+        keep ! (1 ∷ 4 ∷ 2 ∷ 0 ∷ 3 ∷ []) $ by ! (exits (t₁ .0) (t₂ .0) (t₂ .1) (t₁ .2) (t₂ .2) (plain-is (t₁ .0) (t₂ .0) (t₂ .1) (answered (t₁ .0) w₁ (told₁ .0 .1)) (answered (t₂ .0) w₂ (told₂ .0 .1)) (told₂ .0 .2)) (told₁ .1) (told₂ .1) (plain-ends c h (t₁ .1) (t₂ .1) ys (t₁ .2) (p₁ .now) (t₁ .0) (t₂ .0) (told₁ .0 .0) (p₂ .now) (t₂ .2) (told₂ .0 .0)))))))))))))))))))))))
 
 module _ {M : Type 1} (𝓤 : URA M) (H : Heap 𝓤) (A : Atoms 𝓤) (W : Given 𝓤 H A) (mem : Memory → SProp 𝓤) (run : Routine → Fun 𝓤) where
   walks : (C : Calls 𝓤 H) (Λ : Loops 𝓤 H) → FmC 𝓤 H (W .laws) C → Triple 𝓤 (C #write) (Write 𝓤 H A mem run) → Triple 𝓤 (C #read) (Read 𝓤 H A mem run) → Walks 𝓤 H A F.ended stayed (WpFn 𝓤 H C Λ code.function) (F.clauses 𝓤 H A mem run)

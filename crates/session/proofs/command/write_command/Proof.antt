@@ -45,12 +45,12 @@ use Rattle.mock.specs.declared.config.MockDeviceConfig.{MockDeviceConfig}
 use Rattle.mock.proofs.config.MockDeviceConfig as D
 use Rattle.mock.proofs.config.MockDeviceConfig.Laws as D′
 use Rattle.session.specs.Calls.{write, read, callsBy, CallsMeet}
-use Rattle.session.specs.declared.command.Moved.{Moved}
 use Rattle.session.proofs.command.Moved as Rec
 use Rattle.session.proofs.command.Moved.Laws as Rec′
-use Rattle.session.proofs.Lending.{val, Known, slice-at}
+use Rattle.session.proofs.Stepped.{val, answered}
+use Rattle.session.proofs.Lending.{Known, slice-at}
 use Rattle.session.proofs.Calling.{Write, Read, writes, reads}
-use Rattle.session.proofs.Commands.{write-ends}
+use Rattle.session.proofs.Commands.{write-ends, moved-of, moved-val, moved-is}
 use Rattle.session.proofs.bulk.write_bulk.Symbol as write-def
 use Rattle.session.proofs.bulk.write_bulk.Symbol.{name as #write}
 use Rattle.session.proofs.bulk.write_bulk.Met as write-thm
@@ -65,16 +65,8 @@ use Rattle.session.proofs.command.write_command.Code as code
 abbrev stayed : Stays (F.ended .signature .params) (F.ended .kept)
 stayed = (stay-dropped (plain (λ _. T.the-row)) yes, (stay-dropped (plain (λ _. D.the-row)) yes, (stay-slice (0 ∷ []) tt (plain (λ _. u8)), (stay-dropped (shrSliceOf (1 ∷ []) tt (plain (λ _. u8))) yes, (stay-dropped (shrSliceOf (2 ∷ []) tt (plain (λ _. u8))) yes, (gave-slice (3 ∷ []) tt (plain (λ _. u8)), tt))))))
 
--- the machine value of an answer
-abbrev ans : MockAnswer → Val
-ans = LL.val N.the-type N′.the-laws
-
--- an answer's machine value is that
-spelled : (r : MockAnswer) (w : Val) → Is N.the-row r (w ∷ []) → Is N.the-row r (ans r ∷ [])
-spelled r w is = subst (Is N.the-row r) (LL.tells N.the-type N′.the-laws r (w ∷ []) is) is
-
 module _ {M : Type 1} (𝓤 : URA M) (H : Heap 𝓤) (A : Atoms 𝓤) (W : Given 𝓤 H A) (mem : Memory → SProp 𝓤) (run : Routine → Fun 𝓤) (κ κ₁ κ₂ κ₃ : Lft) (q q₁ q₂ q₃ : Share) (h : Session) (h-is : Known h) (c : MockDeviceConfig)
-  (c-is : Is D.the-row c (LL.val D.the-type D′.the-laws c ∷ [])) (b o : ℕ) (γ : GName) (ys : List ℕ) (room : Room u8 (length ys)) (p₁ p₂ p₃ : RefT (List ℕ)) (room₁ : Room u8 (length (p₁ .now))) (room₂ : Room u8 (length (p₂ .now))) (room₃ : Room u8 (length (p₃ .now))) where
+    (c-is : Is D.the-row c (LL.val D.the-type D′.the-laws c ∷ [])) (b o : ℕ) (γ : GName) (ys : List ℕ) (room : Room u8 (length ys)) (p₁ p₂ p₃ : RefT (List ℕ)) (room₁ : Room u8 (length (p₁ .now))) (room₂ : Room u8 (length (p₂ .now))) (room₃ : Room u8 (length (p₃ .now))) where
   abbrev setting : Val
   setting = LL.val D.the-type D′.the-laws c
 
@@ -93,26 +85,16 @@ module _ {M : Type 1} (𝓤 : URA M) (H : Heap 𝓤) (A : Atoms 𝓤) (W : Given
   abbrev Post : Val → SProp 𝓤
   Post = walkOf 𝓤 H A F.ended stayed (F.clauses 𝓤 H A mem run) .post y
 
-  -- what is returned, and that its fields are what they should be
-  abbrev result : MockAnswer → MockAnswer → MockAnswer → Session → Moved
-  result r₁ r₂ r₃ s = record { command = r₁; transfer = r₂; status = r₃; session = s }
-
-  abbrev mach : MockAnswer → MockAnswer → MockAnswer → Session → Val
-  mach r₁ r₂ r₃ s = LL.val Rec.the-type Rec′.the-laws (result r₁ r₂ r₃ s)
-
-  made : (r₁ r₂ r₃ : MockAnswer) (s : Session) → Is N.the-row r₁ (ans r₁ ∷ []) → Is N.the-row r₂ (ans r₂ ∷ []) → Is N.the-row r₃ (ans r₃ ∷ []) → Known s → Is Rec.the-row (result r₁ r₂ r₃ s) (mach r₁ r₂ r₃ s ∷ [])
-  made r₁ r₂ r₃ s is₁ is₂ is₃ is = LL.owes Rec.the-type Rec′.the-laws (result r₁ r₂ r₃ s) (is₁, (is₂, (is₃, (is, tt))))
-
   abbrev Flash : List ℕ → Fml
   Flash zs = MutSlice (named 0) κ u8 .own (slice-at b o γ zs) (sliceVal (b, o) (length ys) ∷ [])
 
-  exits : (r₁ r₂ r₃ : MockAnswer) (s : Session) (ys′ z₃ : List ℕ) → Is Rec.the-row (result r₁ r₂ r₃ s) (mach r₁ r₂ r₃ s ∷ []) → length ys′ ≡ length ys → length z₃ ≡ length (p₃ .now)
+  exits : (r₁ r₂ r₃ : MockAnswer) (s : Session) (ys′ z₃ : List ℕ) → Is Rec.the-row (moved-of r₁ r₂ r₃ s) (moved-val (moved-of r₁ r₂ r₃ s) ∷ []) → length ys′ ≡ length ys → length z₃ ≡ length (p₃ .now)
       → CallsMeet (r₁ ∷ r₂ ∷ r₃ ∷ []) ([] ∷ [] ∷ z₃ ∷ []) s ys′ (callsBy (write (p₁ .now) ∷ write (p₂ .now) ∷ read c (p₃ .now) ∷ []) h ys)
-      → ent 𝓤 (⋆ 𝓤 H A (‵ (flft κ q) ∷ ‵ (flft κ₁ q₁) ∷ ‵ (flft κ₂ q₂) ∷ ‵ (flft κ₃ q₃) ∷ ‵ (Flash ys′) ∷ ‵ (finally u8 (p₃ .name) z₃) ∷ [])) (Post (mach r₁ r₂ r₃ s))
+      → ent 𝓤 (⋆ 𝓤 H A (‵ (flft κ q) ∷ ‵ (flft κ₁ q₁) ∷ ‵ (flft κ₂ q₂) ∷ ‵ (flft κ₃ q₃) ∷ ‵ (Flash ys′) ∷ ‵ (finally u8 (p₃ .name) z₃) ∷ [])) (Post (moved-val (moved-of r₁ r₂ r₃ s)))
   exits r₁ r₂ r₃ s ys′ z₃ is long long₃ e =
       qed W (‵ (flft κ q) ∷ ‵ (flft κ₁ q₁) ∷ ‵ (flft κ₂ q₂) ∷ ‵ (flft κ₃ q₃) ∷ ‵ (Flash ys′) ∷ ‵ (finally u8 (p₃ .name) z₃) ∷ []) ∵
-      suffices ! _ (ends-at 𝓤 H A F.ended stayed (F.clauses 𝓤 H A mem run) W y (mach r₁ r₂ r₃ s) (result r₁ r₂ r₃ s) (tt, (tt, (ys′, (tt, (tt, (z₃, tt)))))) (tt, (tt, (long, (tt, (tt, (long₃, tt))))))) $ says ! e $
-      nothing ! $ move ! (1 ∷ 2 ∷ 3 ∷ 4 ∷ 0 ∷ []) $ group ! 5 $ frame ! $ nothing ! $ nothing ! $ nothing ! $ nothing ! $ nothing ! $  move ! (0 ∷ 1 ∷ 5 ∷ 2 ∷ 3 ∷ 6 ∷ 4 ∷ []) $ group ! 7 $ frame ! $ owned ! Rec.the-row (Is Rec.the-row) (LL.makes Rec.the-type Rec′.the-plain 𝓤 H A) (result r₁ r₂ r₃ s) _ is $ done !
+      suffices ! _ (ends-at 𝓤 H A F.ended stayed (F.clauses 𝓤 H A mem run) W y (moved-val (moved-of r₁ r₂ r₃ s)) (moved-of r₁ r₂ r₃ s) (tt, (tt, (ys′, (tt, (tt, (z₃, tt)))))) (tt, (tt, (long, (tt, (tt, (long₃, tt))))))) $ says ! e $
+      nothing ! $ move ! (1 ∷ 2 ∷ 3 ∷ 4 ∷ 0 ∷ []) $ group ! 5 $ frame ! $ nothing ! $ nothing ! $ nothing ! $ nothing ! $ nothing ! $ move ! (0 ∷ 1 ∷ 5 ∷ 2 ∷ 3 ∷ 6 ∷ 4 ∷ []) $ group ! 7 $ frame ! $ owned ! Rec.the-row (Is Rec.the-row) (LL.makes Rec.the-type Rec′.the-plain 𝓤 H A) (moved-of r₁ r₂ r₃ s) _ is $ done !
 
   module _ (C : Calls 𝓤 H) (Λ : Loops 𝓤 H) (fm : FmC 𝓤 H (W .laws) C) (known-write : Triple 𝓤 (C #write) (Write 𝓤 H A mem run)) (known-read : Triple 𝓤 (C #read) (Read 𝓤 H A mem run)) where
     walk : ent 𝓤 (onEntry 𝓤 H A F.signature (κ, (κ₁, (κ₂, (κ₃, tt)))) (q, (q₁, (q₂, (q₃, tt)))) a vals) (WpFn 𝓤 H C Λ code.function (val h ∷ setting ∷ sliceVal (b, o) (length ys) ∷ sliceVal (p₁ .ptr) (length (p₁ .now)) ∷ sliceVal (p₂ .ptr) (length (p₂ .now)) ∷ sliceVal (p₃ .ptr) (length (p₃ .now)) ∷ []) Post)
@@ -144,10 +126,10 @@ module _ {M : Type 1} (𝓤 : URA M) (H : Heap 𝓤) (A : Atoms 𝓤) (W : Given
         land ! (from ! (stop !)) (init ! 33 refl (LL.lawful N.the-type N′.the-laws 𝓤 H A W .typed (t₃ .0) _ (told₃ .0 .1) .0)) $ rewrite ! 33 (λ (u : Val). ‵ (fat fullShare N′.mir l10 0 u)) (ap only (LL.tells N.the-type N′.the-laws (t₃ .0) _ (told₃ .0 .1))) refl $
         -- [_7; flash; tok0; tok3; last3; tok2; tok1; own_c; own_s; _22; _21; _20; _19; _18; _17; _16; _15; _14; _13; _12; _11; _10; _9; _8; _6; _5; _4; _3; _2; _1; _0]
         assigns ! (of-opd ! (load ! (from ! (stop !)) (look ! 0 refl))) (from ! (stop !)) (init ! 9 refl (LL.lawful T.the-type T′.the-laws 𝓤 H A W .typed (t₃ .1) _ (told₃ .0 .2) .0)) $
-        assigns ! (agg ! (and-then ! (load ! (from ! (stop !)) (look ! 37 refl)) (and-then ! (load ! (from ! (stop !)) (look ! 35 refl)) (and-then ! (load ! (from ! (stop !)) (look ! 33 refl)) (and-then ! (load ! (from ! (stop !)) (look ! 9 refl)) (no-more !)))))) (from ! (stop !)) (init ! 52 refl (LL.lawful Rec.the-type Rec′.the-laws 𝓤 H A W .typed (result (t₁ .0) (t₂ .0) (t₃ .0) (t₃ .1)) _ (made (t₁ .0) (t₂ .0) (t₃ .0) (t₃ .1) (spelled (t₁ .0) w₁ (told₁ .0 .1)) (spelled (t₂ .0) w₂ (told₂ .0 .1)) (spelled (t₃ .0) w₃ (told₃ .0 .1)) (told₃ .0 .2)) .0)) $
+        assigns ! (agg ! (and-then ! (load ! (from ! (stop !)) (look ! 37 refl)) (and-then ! (load ! (from ! (stop !)) (look ! 35 refl)) (and-then ! (load ! (from ! (stop !)) (look ! 33 refl)) (and-then ! (load ! (from ! (stop !)) (look ! 9 refl)) (no-more !)))))) (from ! (stop !)) (init ! 52 refl (LL.lawful Rec.the-type Rec′.the-laws 𝓤 H A W .typed (moved-of (t₁ .0) (t₂ .0) (t₃ .0) (t₃ .1)) _ (moved-is (t₁ .0) (t₂ .0) (t₃ .0) (t₃ .1) (answered (t₁ .0) w₁ (told₁ .0 .1)) (answered (t₂ .0) w₂ (told₂ .0 .1)) (answered (t₃ .0) w₃ (told₃ .0 .1)) (told₃ .0 .2)) .0)) $
         returns ! (look ! 52 refl) $ forget ! 9 refl $ forget ! 11 refl $ forget ! 13 refl $ forget ! 15 refl $ forget ! 17 refl $ forget ! 19 refl $ forget ! 21 refl $ forget ! 23 refl $ forget ! 25 refl $ forget ! 27 refl $ forget ! 29 refl $ forget ! 31 refl $ forget ! 33 refl $ forget ! 35 refl $ forget ! 37 refl $ forget ! 0 refl $ forget ! 40 refl $ forget ! 42 refl $ forget ! 44 refl $ forget ! 46 refl $ forget ! 48 refl $ forget ! 50 refl $ forget ! 52 refl $
         move ! (52 ∷ 53 ∷ []) $ free1 ! $ move ! (50 ∷ 51 ∷ []) $ free1 ! $ move ! (48 ∷ 49 ∷ []) $ free1 ! $ move ! (46 ∷ 47 ∷ []) $ free1 ! $ move ! (44 ∷ 45 ∷ []) $ free1 ! $ move ! (42 ∷ 43 ∷ []) $ free1 ! $ move ! (40 ∷ 41 ∷ []) $ free1 ! $ move ! (0 ∷ 39 ∷ []) $ free1 ! $ move ! (36 ∷ 37 ∷ []) $ free1 ! $ move ! (34 ∷ 35 ∷ []) $ free1 ! $ move ! (32 ∷ 33 ∷ []) $ free1 ! $ move ! (30 ∷ 31 ∷ []) $ free1 ! $ move ! (28 ∷ 29 ∷ []) $ free1 ! $ move ! (26 ∷ 27 ∷ []) $ free1 ! $ move ! (24 ∷ 25 ∷ []) $ free1 ! $ move ! (22 ∷ 23 ∷ []) $ free1 ! $ move ! (20 ∷ 21 ∷ []) $ free1 ! $ move ! (18 ∷ 19 ∷ []) $ free1 ! $ move ! (16 ∷ 17 ∷ []) $ free1 ! $ move ! (14 ∷ 15 ∷ []) $ free1 ! $ move ! (12 ∷ 13 ∷ []) $ free1 ! $ move ! (10 ∷ 11 ∷ []) $ free1 ! $ move ! (8 ∷ 9 ∷ []) $ free1 ! $ free0 ! $
-        keep ! (1 ∷ 5 ∷ 4 ∷ 2 ∷ 0 ∷ 3 ∷ []) $ by ! (exits (t₁ .0) (t₂ .0) (t₃ .0) (t₃ .1) (t₂ .2) (t₃ .2) (made (t₁ .0) (t₂ .0) (t₃ .0) (t₃ .1) (spelled (t₁ .0) w₁ (told₁ .0 .1)) (spelled (t₂ .0) w₂ (told₂ .0 .1)) (spelled (t₃ .0) w₃ (told₃ .0 .1)) (told₃ .0 .2)) (told₂ .1 ∙ told₁ .1) (told₃ .1) (write-ends c h (t₁ .1) (t₂ .1) ys (t₁ .2) (p₁ .now) (t₁ .0) (t₂ .0) (told₁ .0 .0) (p₂ .now) (t₂ .2) (told₂ .0 .0) (t₃ .0) (t₃ .1) (p₃ .now) (t₃ .2) (told₃ .0 .0)))))))))))))))))))))))))))))
+        keep ! (1 ∷ 5 ∷ 4 ∷ 2 ∷ 0 ∷ 3 ∷ []) $ by ! (exits (t₁ .0) (t₂ .0) (t₃ .0) (t₃ .1) (t₂ .2) (t₃ .2) (moved-is (t₁ .0) (t₂ .0) (t₃ .0) (t₃ .1) (answered (t₁ .0) w₁ (told₁ .0 .1)) (answered (t₂ .0) w₂ (told₂ .0 .1)) (answered (t₃ .0) w₃ (told₃ .0 .1)) (told₃ .0 .2)) (told₂ .1 ∙ told₁ .1) (told₃ .1) (write-ends c h (t₁ .1) (t₂ .1) ys (t₁ .2) (p₁ .now) (t₁ .0) (t₂ .0) (told₁ .0 .0) (p₂ .now) (t₂ .2) (told₂ .0 .0) (t₃ .0) (t₃ .1) (p₃ .now) (t₃ .2) (told₃ .0 .0)))))))))))))))))))))))))))))
 
 module _ {M : Type 1} (𝓤 : URA M) (H : Heap 𝓤) (A : Atoms 𝓤) (W : Given 𝓤 H A) (mem : Memory → SProp 𝓤) (run : Routine → Fun 𝓤) where
   walks : (C : Calls 𝓤 H) (Λ : Loops 𝓤 H) → FmC 𝓤 H (W .laws) C → Triple 𝓤 (C #write) (Write 𝓤 H A mem run) → Triple 𝓤 (C #read) (Read 𝓤 H A mem run) → Walks 𝓤 H A F.ended stayed (WpFn 𝓤 H C Λ code.function) (F.clauses 𝓤 H A mem run)
