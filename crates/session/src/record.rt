@@ -26,6 +26,7 @@ pub fn fresh() -> Session
 pub fn start_step(session: Session, flash: &[u8]) -> SessionStep
     ensures { λ r. ⌜ StepMeets r [] (startStep session (length (now (flash .entry)))) ⌝ }
 {
+    let started = fresh();
     let size = flash_sectors(flash.len());
     match size {
         FlashSectors::Whole(_) => SessionStep {
@@ -33,7 +34,7 @@ pub fn start_step(session: Session, flash: &[u8]) -> SessionStep
                 result: MockResult::Done,
                 signature: [0, 0, 0, 0],
             },
-            session: fresh(),
+            session: started,
         },
         FlashSectors::Refused(error) => SessionStep {
             answer: MockAnswer {

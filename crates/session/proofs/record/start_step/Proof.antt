@@ -10,7 +10,6 @@ use Rattle.wire.specs.Told.{Told}
 use Rattle.answer.proofs.Telling.{answers-done}
 use Rattle.answer.specs.declared.range.FlashSectors.{FlashSectors}
 use Rattle.mock.specs.Steps.{sizeResult, sizeAnswer}
-use Rattle.mock.specs.declared.steps.SessionStep.{SessionStep}
 use Rattle.mock.proofs.Lengths.{whole, kept}
 use Rattle.session.specs.Start.{startStep, startStepOf}
 use Rattle.session.proofs.record.start_step.Statement.{statement}
@@ -20,14 +19,14 @@ returns : tie.Need-returns
 unfolding startStep startStepOf
 returns c =
     let n = length (now (c .before .before .before .before .before .args .flash)) in
-    let f = c .before .before .before .flash-sectors in
-    rw (whole (f .result) n (f .ensures) (c .before .enum-told .given .0 .0) (c .before .enum-told .given .1))
-    (record { tells = answers-done; next = c .fresh .ensures; leaves = refl })
+    let f = c .before .before .flash-sectors in
+    rw (whole (f .result) n (f .ensures) (c .enum-told .given .0 .0) (c .enum-told .given .1))
+    (record { tells = answers-done; next = c .before .before .before .fresh .ensures; leaves = refl })
 
 returns-2 : tie.Need-returns-2
 unfolding startStep startStepOf sizeResult
 returns-2 c =
-    let a = c .before .before .before .before .before .args in
+    let a = c .before .before .before .before .before .before .args in
     let f = c .before .before .before .flash-sectors in
     let e = c .before .size .given .1 in
     kept (f .result) (length (now (a .flash))) (f .ensures) (a .session) [] (c .before .size .given .0 .0) e
@@ -36,4 +35,4 @@ returns-2 c =
 
 pub start-step-spec : {M : Type 1} → statement M
 start-step-spec =
-    tie.close (tie.spec (λ c κs. search needs) (λ c. search needs) (λ c κs. search needs) (λ c. search needs) returns returns-2)
+    tie.close (tie.spec (λ c κs. search needs) (λ c κs. search needs) (λ c. search needs) (λ c. search needs) returns returns-2)
