@@ -1,4 +1,5 @@
-// A whole command for whoever has slices and the record by value: the record stands in a local and is lent to one thin call after another.
+// A whole command for whoever has slices and the record by value: the record stands in a local and is lent to one thin call after another. Each call is made
+// whatever the one before answered; what it then comes to is the table's to say.
 use super::bulk::read_bulk;
 use super::bulk::write_bulk;
 use answer::error::MockAnswer;

@@ -28,20 +28,20 @@ pub fn start_step(session: Session, flash: &[u8]) -> SessionStep
 {
     let started = fresh();
     let size = flash_sectors(flash.len());
-    match size {
-        FlashSectors::Whole(_) => SessionStep {
-            answer: MockAnswer {
-                result: MockResult::Done,
-                signature: [0, 0, 0, 0],
-            },
-            session: started,
-        },
-        FlashSectors::Refused(error) => SessionStep {
+    if let FlashSectors::Refused(error) = size {
+        return SessionStep {
             answer: MockAnswer {
                 result: MockResult::Refused(error),
                 signature: [0, 0, 0, 0],
             },
             session: session,
+        };
+    }
+    SessionStep {
+        answer: MockAnswer {
+            result: MockResult::Done,
+            signature: [0, 0, 0, 0],
         },
+        session: started,
     }
 }

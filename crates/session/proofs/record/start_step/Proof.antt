@@ -16,16 +16,8 @@ use Rattle.session.proofs.record.start_step.Statement.{statement}
 use Rattle.session.proofs.record.start_step.Tie as tie
 
 returns : tie.Need-returns
-unfolding startStep startStepOf
-returns c =
-    let n = length (now (c .before .before .before .before .before .args .flash)) in
-    let f = c .before .before .flash-sectors in
-    rw (whole (f .result) n (f .ensures) (c .enum-told .given .0 .0) (c .enum-told .given .1))
-    (record { tells = answers-done; next = c .before .before .before .fresh .ensures; leaves = refl })
-
-returns-2 : tie.Need-returns-2
 unfolding startStep startStepOf sizeResult
-returns-2 c =
+returns c =
     let a = c .before .before .before .before .before .before .args in
     let f = c .before .before .before .flash-sectors in
     let e = c .before .size .given .1 in
@@ -33,6 +25,14 @@ returns-2 c =
     (ap (λ (z : FlashSectors). record { answer = sizeAnswer z; session = a .session }) (sym e))
     (λ number values h. ap (λ (t : Told ℕ). startStepOf t (a .session)) h)
 
+returns-2 : tie.Need-returns-2
+unfolding startStep startStepOf
+returns-2 c =
+    let n = length (now (c .before .before .before .before .before .args .flash)) in
+    let f = c .before .before .flash-sectors in
+    rw (whole (f .result) n (f .ensures) (c .enum-told .given .0 .0) (c .enum-told .given .1))
+    (record { tells = answers-done; next = c .before .before .before .fresh .ensures; leaves = refl })
+
 pub start-step-spec : {M : Type 1} → statement M
 start-step-spec =
-    tie.close (tie.spec (λ c κs. search needs) (λ c κs. search needs) (λ c. search needs) (λ c. search needs) returns returns-2)
+    tie.close (tie.spec (λ c κs. search needs) (λ c κs. search needs) (λ c. search needs) returns (λ c. search needs) returns-2)
