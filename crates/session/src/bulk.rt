@@ -2,7 +2,6 @@
 use super::record::start_step;
 use answer::error::MockAnswer;
 use mock::config::MockDeviceConfig;
-use mock::steps::SessionStep;
 use mock::steps::read_step;
 use mock::steps::write_step;
 use transaction::session::Session;

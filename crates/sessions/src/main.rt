@@ -2,12 +2,8 @@
 // each command; README.md beside says how the expected lines were worked out.
 use answer::error::MockAnswer;
 use answer::error::MockResult;
-use codes::ResetOpcode;
 use libc::STDOUT_FILENO;
 use mock::config::MockDeviceConfig;
-use mock::steps::SessionStep;
-use session::command::Moved;
-use session::command::Plain;
 use session::command::plain_command;
 use session::command::read_command;
 use session::command::write_command;
@@ -16,181 +12,6 @@ use session::record::start_step;
 use transaction::session::CommandState;
 use transaction::session::LastReset;
 use transaction::session::Session;
-
-// WriteLBA, tag 1: 512 bytes out, sector 1, count 1
-const WRITE: [u8; 31] = [
-    0x55,
-    0x53,
-    0x42,
-    0x43,
-    0,
-    0,
-    0,
-    1,
-    0,
-    2,
-    0,
-    0,
-    0x00,
-    0,
-    0x0A,
-    0x15,
-    0,
-    0,
-    0,
-    0,
-    1,
-    0,
-    0,
-    1,
-    0,
-    0,
-    0,
-    0,
-    0,
-    0,
-    0,
-];
-
-// ReadLBA, tag 2: 1,024 bytes in, sector 1, count 2
-const READ: [u8; 31] = [
-    0x55,
-    0x53,
-    0x42,
-    0x43,
-    0,
-    0,
-    0,
-    2,
-    0,
-    4,
-    0,
-    0,
-    0x80,
-    0,
-    0x0A,
-    0x14,
-    0,
-    0,
-    0,
-    0,
-    1,
-    0,
-    0,
-    2,
-    0,
-    0,
-    0,
-    0,
-    0,
-    0,
-    0,
-];
-
-// EraseLBA, tag 3: no data, sector 2, count 1
-const ERASE: [u8; 31] = [
-    0x55,
-    0x53,
-    0x42,
-    0x43,
-    0,
-    0,
-    0,
-    3,
-    0,
-    0,
-    0,
-    0,
-    0x00,
-    0,
-    0x0A,
-    0x25,
-    0,
-    0,
-    0,
-    0,
-    2,
-    0,
-    0,
-    1,
-    0,
-    0,
-    0,
-    0,
-    0,
-    0,
-    0,
-];
-
-// DeviceReset, tag 4: no data, opcode 3
-const RESET: [u8; 31] = [
-    0x55,
-    0x53,
-    0x42,
-    0x43,
-    0,
-    0,
-    0,
-    4,
-    0,
-    0,
-    0,
-    0,
-    0x00,
-    0,
-    0x06,
-    0xFF,
-    3,
-    0,
-    0,
-    0,
-    0,
-    0,
-    0,
-    0,
-    0,
-    0,
-    0,
-    0,
-    0,
-    0,
-    0,
-];
-
-// WriteLBA, tag 5: 512 bytes out, sector 4, count 1, of a flash of 4 sectors
-const BEYOND: [u8; 31] = [
-    0x55,
-    0x53,
-    0x42,
-    0x43,
-    0,
-    0,
-    0,
-    5,
-    0,
-    2,
-    0,
-    0,
-    0x00,
-    0,
-    0x0A,
-    0x15,
-    0,
-    0,
-    0,
-    0,
-    4,
-    0,
-    0,
-    1,
-    0,
-    0,
-    0,
-    0,
-    0,
-    0,
-    0,
-];
 
 fn print(text: &[u8]) {
     io::write_all(STDOUT_FILENO, text);
@@ -353,11 +174,26 @@ fn start(flash: &[u8]) -> Session {
 fn main() {
     let mut flash = [0x11u8; 2048];
     let started = start(&flash);
-    let written = write(started, &mut flash, &WRITE);
-    let seen = read(written, &mut flash, &READ);
-    let erased = settle(seen, &mut flash, &ERASE);
-    let reset = settle(erased, &mut flash, &RESET);
-    write(reset, &mut flash, &BEYOND);
+    // WriteLBA, tag 1: 512 bytes out, sector 1, count 1
+    let block =
+        b"USBC\x00\x00\x00\x01\x00\x02\x00\x00\x00\x00\x0A\x15\x00\x00\x00\x00\x01\x00\x00\x01\x00\x00\x00\x00\x00\x00\x00";
+    let written = write(started, &mut flash, block);
+    // ReadLBA, tag 2: 1,024 bytes in, sector 1, count 2
+    let block =
+        b"USBC\x00\x00\x00\x02\x00\x04\x00\x00\x80\x00\x0A\x14\x00\x00\x00\x00\x01\x00\x00\x02\x00\x00\x00\x00\x00\x00\x00";
+    let seen = read(written, &mut flash, block);
+    // EraseLBA, tag 3: no data, sector 2, count 1
+    let block =
+        b"USBC\x00\x00\x00\x03\x00\x00\x00\x00\x00\x00\x0A\x25\x00\x00\x00\x00\x02\x00\x00\x01\x00\x00\x00\x00\x00\x00\x00";
+    let erased = settle(seen, &mut flash, block);
+    // DeviceReset, tag 4: no data, opcode 3
+    let block =
+        b"USBC\x00\x00\x00\x04\x00\x00\x00\x00\x00\x00\x06\xFF\x03\x00\x00\x00\x00\x00\x00\x00\x00\x00\x00\x00\x00\x00\x00";
+    let reset = settle(erased, &mut flash, block);
+    // WriteLBA, tag 5: 512 bytes out, sector 4, count 1, of a flash of 4 sectors
+    let block =
+        b"USBC\x00\x00\x00\x05\x00\x02\x00\x00\x00\x00\x0A\x15\x00\x00\x00\x00\x04\x00\x00\x01\x00\x00\x00\x00\x00\x00\x00";
+    write(reset, &mut flash, block);
     print(b"flash");
     print_sectors(&flash);
     print(b"\n");
