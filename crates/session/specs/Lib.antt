@@ -1,0 +1,6 @@
+-- `Start` says what a session is at its start, `Lent` what a call leaves of a session that is lent, `Calls` what a sequence of calls comes to by value,
+-- `Sequence` what it is to make one.
+pub mod Start
+pub mod Lent
+pub mod Calls
+pub mod Sequence
