@@ -3,7 +3,7 @@
 --     lends-read, after-read       a call of `read_bulk`: the flash is lent again as `&`, and the buffer goes to the call for good
 -- The record and the flash are each lent for a lifetime that is made for the call and ended after it (`Lending.antt`). All that is known of a call is that it meets its contract.
 -- Assumes `Given`.
-use mathlib.Core.Path.{_≡_, refl}
+use mathlib.Core.Path.{_≡_}
 use Prim.Native.Nat.{ℕ}
 use mathlib.Core.List.{List, [], _∷_}
 use lib.ListN.{length}
