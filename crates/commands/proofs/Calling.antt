@@ -40,12 +40,12 @@ use Rattle.mock.specs.Steps.{Step, writeStep, readStep}
 use Rattle.mock.specs.declared.config.MockDeviceConfig.{MockDeviceConfig}
 use Rattle.mock.proofs.config.MockDeviceConfig as D
 use Rattle.mock.proofs.config.MockDeviceConfig.Laws as D′
 use Rattle.session.specs.Lent.{CallMeets}
-use Rattle.session.proofs.Lending.{Known, Cell, record-at, LentRecord, lends-record, record-back, slice-at, LentAgain, lends-again, comes-back, SharedAgain, shares-again, unshared}
+use Rattle.commands.proofs.Lending.{Known, Cell, record-at, LentRecord, lends-record, record-back, slice-at, LentAgain, lends-again, comes-back, SharedAgain, shares-again, unshared}
 use Rattle.session.proofs.bulk.write_bulk as write
 use Rattle.session.proofs.bulk.write_bulk.Symbol.{name as #write}
 use Rattle.session.proofs.bulk.read_bulk as read
 use Rattle.session.proofs.bulk.read_bulk.Symbol.{name as #read}
 
 -- the names that a call makes: the record's lifetime and the flash's, and the names under which they are lent
 abbrev pub Names : Type 0
