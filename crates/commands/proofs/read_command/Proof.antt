@@ -1,5 +1,5 @@
 -- `commands::read_command` meets its contract: a walk of its MIR. Three calls: the command out, the data in, the status in. Before each call the record, which stands in a local, and the flash are lent to it, and after it both are back (`Calling.antt`).
--- All that the proof knows of a thin call is that it meets its contract; that the calls together come to the sequence by value is `Sequence.antt`'s.
+-- All that the proof knows of a thin call is that it meets its contract; that the calls together come to the sequence by value is `ends` of `session`.
 -- Assumes nothing.
 use mathlib.Core.Path.{_≡_, refl, ap, subst, sym}
 use Prim.Native.Nat.{ℕ}
