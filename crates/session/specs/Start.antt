@@ -1,7 +1,7 @@
 -- A session at its start.
 -- Assumes nothing.
 use Prim.Native.Nat.{ℕ}
-use mathlib.Core.List.{List, []}
+use mathlib.Core.List.{[]}
 use Rattle.wire.specs.Told.{Told, given, refused}
 use Rattle.answer.specs.Flash.{flashSectors}
 use Rattle.transaction.specs.declared.session.Session.{Session}

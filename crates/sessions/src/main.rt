@@ -2,11 +2,11 @@
 // each command; README.md beside says how the expected lines were worked out.
 use answer::error::MockAnswer;
 use answer::error::MockResult;
+use commands::plain_command;
+use commands::read_command;
+use commands::write_command;
 use libc::STDOUT_FILENO;
 use mock::config::MockDeviceConfig;
-use session::command::plain_command;
-use session::command::read_command;
-use session::command::write_command;
 use session::record::fresh;
 use session::record::start_step;
 use transaction::session::CommandState;

@@ -1,7 +1,6 @@
 -- A turn for each byte.
 -- Assumes nothing.
 use Prim.Native.Nat.{_≤_, _-_}
-use native.Mathlib.Omega.{arith}
 use lib.ListN.{length}
 use borrow.Author.Needs.{needs}
 use Rattle.sessions.proofs.print_sectors.Statement.{statement}

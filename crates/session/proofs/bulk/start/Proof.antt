@@ -1,7 +1,7 @@
 -- `session::bulk::start` meets its contract: a walk of its MIR. The borrow is opened; the record behind it is copied and passed to `start_step`; what that returns is stored behind the reference, and the borrow is closed at it.
 -- All that the proof knows of `start_step` is that it meets its contract. It looks into no field and no variant.
 -- Assumes nothing.
-use mathlib.Core.Path.{refl, ap}
+use mathlib.Core.Path.{refl}
 use Prim.Native.Nat.{ℕ}
 use mathlib.Core.List.{[], _∷_, List}
 use lib.ListN.{length}

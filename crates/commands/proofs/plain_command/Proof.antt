@@ -1,5 +1,5 @@
--- `session::command::plain_command` meets its contract: a walk of its MIR. Two calls: the command out, the status in. Before each call the record, which stands in a local, and the flash are lent to it, and after it both are back (`Calling.antt`).
--- All that the proof knows of a thin call is that it meets its contract; that the calls together come to the sequence by value is `Sequence.antt`'s.
+-- `commands::plain_command` meets its contract: a walk of its MIR. Two calls: the command out, the status in. Before each call the record, which stands in a local, and the flash are lent to it, and after it both are back (`Calling.antt`).
+-- All that the proof knows of a thin call is that it meets its contract; that the calls together come to the sequence by value is `ends` of `session`.
 -- Assumes nothing.
 use mathlib.Core.Path.{_≡_, refl, ap, subst, sym}
 use Prim.Native.Nat.{ℕ}
@@ -44,23 +44,23 @@ use Rattle.transaction.proofs.session.Session.Laws as T′
 use Rattle.mock.specs.declared.config.MockDeviceConfig.{MockDeviceConfig}
 use Rattle.mock.proofs.config.MockDeviceConfig as D
 use Rattle.mock.proofs.config.MockDeviceConfig.Laws as D′
 use Rattle.session.specs.Calls.{write, read, callsBy, CallsMeet}
-use Rattle.session.proofs.command.Plain as Rec
-use Rattle.session.proofs.command.Plain.Laws as Rec′
+use Rattle.commands.proofs.Plain as Rec
+use Rattle.commands.proofs.Plain.Laws as Rec′
 use Rattle.session.proofs.Stepped.{val, answered}
-use Rattle.session.proofs.Lending.{Known, slice-at}
-use Rattle.session.proofs.Calling.{Write, Read, writes, reads}
-use Rattle.session.proofs.Commands.{plain-ends, plain-of, plain-val, plain-is}
+use Rattle.commands.proofs.Lending.{Known, slice-at}
+use Rattle.commands.proofs.Calling.{Write, Read, writes, reads}
+use Rattle.commands.proofs.Ends.{plain-ends, plain-of, plain-val, plain-is}
 use Rattle.session.proofs.bulk.write_bulk.Symbol as write-def
 use Rattle.session.proofs.bulk.write_bulk.Symbol.{name as #write}
 use Rattle.session.proofs.bulk.write_bulk.Met as write-thm
 use Rattle.session.proofs.bulk.read_bulk.Symbol as read-def
 use Rattle.session.proofs.bulk.read_bulk.Symbol.{name as #read}
 use Rattle.session.proofs.bulk.read_bulk.Met as read-thm
-use Rattle.session.proofs.command.plain_command.Key.{name as #own}
-use Rattle.session.proofs.command.plain_command as F
-use Rattle.session.proofs.command.plain_command.Statement as stated
-use Rattle.session.proofs.command.plain_command.Code as code
+use Rattle.commands.proofs.plain_command.Key.{name as #own}
+use Rattle.commands.proofs.plain_command as F
+use Rattle.commands.proofs.plain_command.Statement as stated
+use Rattle.commands.proofs.plain_command.Code as code
 
 abbrev stayed : Stays (F.ended .signature .params) (F.ended .kept)
 stayed = (stay-dropped (plain (λ _. T.the-row)) yes, (stay-dropped (plain (λ _. D.the-row)) yes, (stay-slice (0 ∷ []) tt (plain (λ _. u8)), (stay-dropped (shrSliceOf (1 ∷ []) tt (plain (λ _. u8))) yes, (gave-slice (2 ∷ []) tt (plain (λ _. u8)), tt)))))

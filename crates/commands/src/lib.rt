@@ -1,12 +1,12 @@
 // A whole command for whoever has slices and the record by value: the record stands in a local and is lent to one thin call after another. Each call is made
 // whatever the one before answered; what it then comes to is the table's to say.
-use super::bulk::read_bulk;
-use super::bulk::write_bulk;
 use answer::error::MockAnswer;
 use mock::config::MockDeviceConfig;
+use session::bulk::read_bulk;
+use session::bulk::write_bulk;
 use transaction::session::Session;
 ghost use mathlib.Core.List.{[], _∷_};
 ghost use Rattle.session.specs.Calls.{CallsMeet, callsBy, write, read};
 
 // What each call answered, and the record after the last.
 pub struct Plain {

@@ -3,7 +3,7 @@
 --     lends-read, after-read       a call of `read_bulk`: the flash is lent again as `&`, and the buffer goes to the call for good
 -- The record and the flash are each lent for a lifetime that is made for the call and ended after it (`Lending.antt`). All that is known of a call is that it meets its contract.
 -- Assumes `Given`.
-use mathlib.Core.Path.{_≡_, refl}
+use mathlib.Core.Path.{_≡_}
 use Prim.Native.Nat.{ℕ}
 use mathlib.Core.List.{List, [], _∷_}
 use lib.ListN.{length}
@@ -40,12 +40,12 @@ use Rattle.mock.specs.Steps.{Step, writeStep, readStep}
 use Rattle.mock.specs.declared.config.MockDeviceConfig.{MockDeviceConfig}
 use Rattle.mock.proofs.config.MockDeviceConfig as D
 use Rattle.mock.proofs.config.MockDeviceConfig.Laws as D′
 use Rattle.session.specs.Lent.{CallMeets}
-use Rattle.session.proofs.Lending.{Known, Cell, record-at, LentRecord, lends-record, record-back, slice-at, LentAgain, lends-again, comes-back, SharedAgain, shares-again, unshared}
+use Rattle.commands.proofs.Lending.{Known, Cell, record-at, LentRecord, lends-record, record-back, slice-at, LentAgain, lends-again, comes-back, SharedAgain, shares-again, unshared}
 use Rattle.session.proofs.bulk.write_bulk as write
 use Rattle.session.proofs.bulk.write_bulk.Symbol.{name as #write}
 use Rattle.session.proofs.bulk.read_bulk as read
 use Rattle.session.proofs.bulk.read_bulk.Symbol.{name as #read}
 
 -- the names that a call makes: the record's lifetime and the flash's, and the names under which they are lent
 abbrev pub Names : Type 0

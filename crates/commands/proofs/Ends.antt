@@ -11,18 +11,18 @@ use Rattle.answer.proofs.error.MockAnswer as N
 use Rattle.transaction.specs.declared.session.Session.{Session}
 use Rattle.mock.specs.Steps.{writeStep, readStep}
 use Rattle.mock.specs.declared.config.MockDeviceConfig.{MockDeviceConfig}
 use Rattle.session.specs.Lent.{CallMeets}
 use Rattle.session.specs.Calls.{write, read, callsBy, CallsMeet}
 use Rattle.session.specs.Sequence.{Made, Lent, Run, lastSession, lastFlash}
-use Rattle.session.specs.declared.command.Plain.{Plain}
-use Rattle.session.specs.declared.command.Moved.{Moved}
-use Rattle.session.proofs.command.Plain as P
-use Rattle.session.proofs.command.Plain.Laws as P′
-use Rattle.session.proofs.command.Moved as M
-use Rattle.session.proofs.command.Moved.Laws as M′
+use Rattle.commands.specs.declared.Plain.{Plain}
+use Rattle.commands.specs.declared.Moved.{Moved}
+use Rattle.commands.proofs.Plain as P
+use Rattle.commands.proofs.Plain.Laws as P′
+use Rattle.commands.proofs.Moved as M
+use Rattle.commands.proofs.Moved.Laws as M′
 use Rattle.session.proofs.Sequence.{ends}
 use Rattle.session.proofs.Stepped.{ans}
-use Rattle.session.proofs.Lending.{Known}
+use Rattle.commands.proofs.Lending.{Known}
 
 abbrev made : MockAnswer → Session → List ℕ → List ℕ → Made
 made r s flash buffer = record { answer = r; session = s; flash = flash; buffer = buffer }
