@@ -29,6 +29,14 @@ pub extern "C" fn otterarch_crc_update(crc: u16, bytes: &[u8]) -> u16
     crc::update(crc, bytes)
 }
 
+// The same a byte at a time, for a core with little stack.
+#[no_mangle]
+pub extern "C" fn otterarch_crc_update_bytewise(crc: u16, bytes: &[u8]) -> u16
+    ensures { λ r. ⌜ r ≡ crcOver crc (now (bytes .entry)) ⌝ }
+{
+    crc::update_bytewise(crc, bytes)
+}
+
 // A whole upload to its finish, each transfer at the front of `out`: 0 or the number of the refusal, 28 past `budget` steps.
 #[no_mangle]
 pub extern "C" fn otterarch_upload_whole(
@@ -48,7 +56,25 @@ pub extern "C" fn otterarch_upload_whole(
     uploads::whole_on(started.upload, image, out, budget)
 }
 
-// The same in parts of `size` bytes, handed over by `budget` calls at most.
+// Its first step alone, by the byte-wise check: 28, unless that step is the last.
+#[no_mangle]
+pub extern "C" fn otterarch_upload_first_bytewise(
+    area: u16,
+    checked: bool,
+    image: &[u8],
+    out: &mut [u8],
+) -> u8
+    ensures { λ r. ⌜ DriveMeets r (now (out .exit)) (wholeDrive area checked (now (image .entry)) (now (out .entry)) 1) ⌝ }
+{
+    let started = uploads::start(area, checked, image);
+    let start = started.start;
+    let UploadStart::Started = start else {
+        return 25;
+    };
+    uploads::first_bytewise(started.upload, image, out)
+}
+
+// A whole upload in parts of `size` bytes, handed over by `budget` calls at most.
 #[no_mangle]
 pub extern "C" fn otterarch_upload_parts(
     area: u16,

@@ -24,6 +24,7 @@ const BLOCK: usize = 4096;
 unsafe extern "C" {
     fn loops_make();
     fn loops_bytewise(crc: u16, bytes: *const u8, length: usize) -> u16;
+    fn loops_by_eight(crc: u16, bytes: *const u8, length: usize) -> u16;
 }
 
 /// One way to do the work of a case, once.
@@ -40,7 +41,8 @@ pub struct Case {
     pub counted: bool,
     pub proved: Side,
     pub original: Side,
-    pub plain: Option<Side>,
+    /// The check by a C table loop, and by one that takes eight bytes at a time.
+    pub plain: Option<[Side; 2]>,
 }
 
 /// Bytes that no compiler foresees.
@@ -61,28 +63,40 @@ fn bytewise(bytes: &[u8]) -> u16 {
     unsafe { loops_bytewise(0xFFFF, bytes.as_ptr(), bytes.len()) }
 }
 
-fn check(image: &Rc<Vec<u8>>, length: usize) -> Case {
+fn by_eight(bytes: &[u8]) -> u16 {
+    unsafe { loops_by_eight(0xFFFF, bytes.as_ptr(), bytes.len()) }
+}
+
+type Update = fn(u16, &[u8]) -> u16;
+
+fn check(image: &Rc<Vec<u8>>, length: usize, update: Update, form: &str) -> Case {
     let whole = length == image.len();
-    let (a, b, c) = (image.clone(), image.clone(), image.clone());
+    let (a, b, c, d) = (image.clone(), image.clone(), image.clone(), image.clone());
     let bytes = &image[..length];
-    assert_eq!(proved::update(0xFFFF, bytes), original::check(bytes));
+    assert_eq!(update(0xFFFF, bytes), original::check(bytes));
     assert_eq!(bytewise(bytes), original::check(bytes));
-    let name = if whole { "64 MiB".into() } else { many(length, "byte") };
+    assert_eq!(by_eight(bytes), original::check(bytes));
+    let size = if whole { "64 MiB".into() } else { many(length, "byte") };
     Case {
         group: "check",
-        name,
+        name: format!("{size}{form}"),
         bytes: whole.then_some(length),
         times: if whole { 1 } else { 200_000 / length.max(8) },
         counted: !whole,
         proved: Box::new(move || {
-            black_box(proved::update(0xFFFF, black_box(&a[..length])));
+            black_box(update(0xFFFF, black_box(&a[..length])));
         }),
         original: Box::new(move || {
             black_box(original::check(black_box(&b[..length])));
         }),
-        plain: Some(Box::new(move || {
-            black_box(bytewise(black_box(&c[..length])));
-        })),
+        plain: Some([
+            Box::new(move || {
+                black_box(bytewise(black_box(&c[..length])));
+            }),
+            Box::new(move || {
+                black_box(by_eight(black_box(&d[..length])));
+            }),
+        ]),
     }
 }
 
@@ -229,7 +243,9 @@ pub fn all(scale: Scale) -> Vec<Case> {
     let image = Rc::new(noise(scale.image));
     let flash = noise(scale.sectors * 512);
     let bench = Rc::new(RefCell::new(Bench { mock: original::device(flash.clone()), flash }));
-    let mut cases: Vec<Case> = [scale.image, 1, 8, 64, 512].map(|n| check(&image, n)).into();
+    let mut cases: Vec<Case> =
+        [scale.image, 1, 8, 64, 512].map(|n| check(&image, n, proved::update, "")).into();
+    cases.push(check(&image, scale.image, proved::update_bytewise, ", byte-wise"));
     for checked in [true, false] {
         cases.push(upload(&image, checked, None));
         cases.extend(PARTS.map(|n| upload(&image, checked, Some(n))));

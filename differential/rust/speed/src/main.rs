@@ -6,6 +6,7 @@ mod deck;
 mod original;
 mod page;
 mod proved;
+mod stack;
 
 use std::{
     env, io,
@@ -29,12 +30,12 @@ fn timed(side: &mut Side, times: usize, turn: usize) -> f64 {
 }
 
 fn measured(mut case: Case) -> Row {
-    let (mut proved, mut original, mut plain) = (f64::INFINITY, f64::INFINITY, f64::INFINITY);
+    let (mut proved, mut original, mut plain) = (f64::INFINITY, f64::INFINITY, [f64::INFINITY; 2]);
     for turn in 0..TURNS {
         proved = proved.min(timed(&mut case.proved, case.times, turn));
         original = original.min(timed(&mut case.original, case.times, turn));
-        if let Some(side) = &mut case.plain {
-            plain = plain.min(timed(side, case.times, turn));
+        for (best, side) in plain.iter_mut().zip(case.plain.iter_mut().flatten()) {
+            *best = best.min(timed(side, case.times, turn));
         }
     }
     Row {
@@ -88,7 +89,7 @@ fn measure(docs: &str) -> io::Result<()> {
     println!("{}", rows[rows.len() - 1].line());
     let copies = Command::new(env::current_exe()?.with_file_name("copies")).output()?;
     let copies = String::from_utf8_lossy(&copies.stdout).into_owned();
-    page::write(Path::new(docs), &rows, &copies)
+    page::write(Path::new(docs), &rows, &copies, &stack::table())
 }
 
 fn main() -> ExitCode {

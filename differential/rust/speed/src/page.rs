@@ -17,7 +17,8 @@ pub struct Row {
     pub amount: Amount,
     pub proved: f64,
     pub original: f64,
-    pub plain: Option<f64>,
+    /// The C loops, byte by byte and eight bytes at a time.
+    pub plain: Option<[f64; 2]>,
     pub instructions: Option<(u64, u64)>,
 }
 
@@ -43,13 +44,13 @@ impl Row {
 
 fn table(rows: &[Row]) -> String {
     let mut text = String::from(
-        "| | | proved | Rust | ratio | C at -O2 | instructions, proved and Rust |\n|---|---|---|---|---|---|---|\n",
+        "| | | proved | Rust | ratio | C at -O2, by a table, by eight | instructions, proved and Rust |\n|---|---|---|---|---|---|---|\n",
     );
     let mut group = "";
     for row in rows {
         let first = if row.group == group { "" } else { row.group };
         group = row.group;
-        let plain = row.plain.map_or(String::new(), |s| row.figure(s));
+        let plain = row.plain.map_or(String::new(), |[a, b]| format!("{}, {}", row.figure(a), row.figure(b)));
         let instructions = row.instructions.map_or(String::new(), |(p, o)| format!("{p}, {o}"));
         let (proved, original) = (row.figure(row.proved), row.figure(row.original));
         let (name, ratio) = (&row.name, row.ratio());
@@ -109,11 +110,12 @@ fn machine() -> String {
     format!("{} ({})", named.unwrap_or_else(|| "unknown".into()), std::env::consts::ARCH)
 }
 
-pub fn write(docs: &Path, rows: &[Row], copies: &str) -> io::Result<()> {
+pub fn write(docs: &Path, rows: &[Row], copies: &str, stack: &str) -> io::Result<()> {
     let text = include_str!("page.md")
         .replace("{machine}", &machine())
         .replace("{table}", table(rows).trim_end())
-        .replace("{copies}", copies.trim_end());
+        .replace("{copies}", copies.trim_end())
+        .replace("{stack}", stack.trim_end());
     fs::write(docs.join("speed.md"), text)?;
     fs::write(docs.join("speed.svg"), picture(rows))
 }
