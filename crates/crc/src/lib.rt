@@ -10,8 +10,8 @@ ghost use Rattle.crc.specs.Table.{entry, crcTable, after, sliceTables};
 
 const START: u16 = 0xFFFF;
 
-// Below this many bytes the eight tables cost more than they save.
-const SHORT: usize = 256;
+// Below this many bytes the eight tables may cost more than they save: measured they do below 24 (docs/speed.md).
+const SHORT: usize = 64;
 
 // Entry i is what eight zero bits make of the register i * 256.
 const TABLE: [u16; 256] = [
@@ -356,10 +356,13 @@ fn update_by_eight(crc: u16, bytes: &[u8]) -> u16
 pub fn update(crc: u16, bytes: &[u8]) -> u16
     ensures { λ r. ⌜ r ≡ crcOver crc (now (bytes .entry)) ⌝ }
 {
-    if bytes.len() < SHORT {
-        return update_bytewise(crc, bytes);
+    // Its address and its length are read before the test, so that callers hand them over in registers: a short call pays for the test alone.
+    let length = bytes.len();
+    let all = &bytes[..length];
+    if length < SHORT {
+        return update_bytewise(crc, all);
     }
-    update_by_eight(crc, bytes)
+    update_by_eight(crc, all)
 }
 
 // The check of a whole message.

@@ -1,0 +1,85 @@
+//! The proved functions of `crates/exported`. The archive expects numbers below 32 bits extended, so they are handed over as 32 bits.
+
+#![allow(dead_code)]
+
+unsafe extern "C" {
+    fn otterarch_crc_update(crc: u32, bytes: *const u8, length: usize) -> u16;
+    fn otterarch_crc_update_bytewise(crc: u32, bytes: *const u8, length: usize) -> u16;
+    fn otterarch_upload_whole(
+        area: u32,
+        checked: u32,
+        image: *const u8,
+        length: usize,
+        out: *mut u8,
+        room: usize,
+        budget: u32,
+    ) -> u8;
+    fn otterarch_upload_first_bytewise(
+        area: u32,
+        checked: u32,
+        image: *const u8,
+        length: usize,
+        out: *mut u8,
+        room: usize,
+    ) -> u8;
+    fn otterarch_upload_parts(
+        area: u32,
+        checked: u32,
+        size: usize,
+        image: *const u8,
+        length: usize,
+        out: *mut u8,
+        room: usize,
+        budget: u32,
+    ) -> u8;
+    fn otterarch_command_write(tag: u32, first: u32, sectors: u32, out: *mut u8, room: usize) -> u8;
+    fn otterarch_command_read(bytes: *const u8, length: usize) -> u64;
+    fn otterarch_read_sectors(first: u32, flash: *mut u8, size: usize, data: *mut u8, length: usize) -> u8;
+    fn otterarch_write_sectors(first: u32, flash: *mut u8, size: usize, data: *const u8, length: usize)
+    -> u8;
+}
+
+pub fn update(crc: u16, bytes: &[u8]) -> u16 {
+    unsafe { otterarch_crc_update(crc.into(), bytes.as_ptr(), bytes.len()) }
+}
+
+pub fn update_bytewise(crc: u16, bytes: &[u8]) -> u16 {
+    unsafe { otterarch_crc_update_bytewise(crc.into(), bytes.as_ptr(), bytes.len()) }
+}
+
+pub fn upload_whole(area: u16, checked: bool, image: &[u8], out: &mut [u8], budget: u32) -> u8 {
+    let (room, out) = (out.len(), out.as_mut_ptr());
+    unsafe {
+        otterarch_upload_whole(area.into(), checked.into(), image.as_ptr(), image.len(), out, room, budget)
+    }
+}
+
+pub fn upload_first_bytewise(area: u16, checked: bool, image: &[u8], out: &mut [u8]) -> u8 {
+    let (room, out) = (out.len(), out.as_mut_ptr());
+    unsafe {
+        otterarch_upload_first_bytewise(area.into(), checked.into(), image.as_ptr(), image.len(), out, room)
+    }
+}
+
+pub fn upload_parts(area: u16, checked: bool, size: usize, image: &[u8], out: &mut [u8], budget: u32) -> u8 {
+    let (room, out, n) = (out.len(), out.as_mut_ptr(), image.len());
+    unsafe { otterarch_upload_parts(area.into(), checked.into(), size, image.as_ptr(), n, out, room, budget) }
+}
+
+pub fn command_write(tag: u32, first: u32, sectors: u16, out: &mut [u8]) -> u8 {
+    unsafe { otterarch_command_write(tag, first, sectors.into(), out.as_mut_ptr(), out.len()) }
+}
+
+pub fn command_read(bytes: &[u8]) -> u64 {
+    unsafe { otterarch_command_read(bytes.as_ptr(), bytes.len()) }
+}
+
+pub fn read_sectors(first: u32, flash: &mut [u8], data: &mut [u8]) -> u8 {
+    let (size, flash) = (flash.len(), flash.as_mut_ptr());
+    unsafe { otterarch_read_sectors(first, flash, size, data.as_mut_ptr(), data.len()) }
+}
+
+pub fn write_sectors(first: u32, flash: &mut [u8], data: &[u8]) -> u8 {
+    let (size, flash) = (flash.len(), flash.as_mut_ptr());
+    unsafe { otterarch_write_sectors(first, flash, size, data.as_ptr(), data.len()) }
+}

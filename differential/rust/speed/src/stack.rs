@@ -1,0 +1,58 @@
+//! How much stack the forms of the check take.
+
+use std::hint::black_box;
+
+use crate::proved;
+
+unsafe extern "C" {
+    fn loops_stack(call: extern "C" fn()) -> usize;
+}
+
+static IMAGE: [u8; 8192] = [7; 8192];
+static mut OUT: [u8; 4096] = [0; 4096];
+
+#[allow(static_mut_refs)]
+fn out() -> &'static mut [u8] {
+    unsafe { &mut OUT }
+}
+
+extern "C" fn nothing() {}
+
+extern "C" fn update() {
+    black_box(proved::update(0xFFFF, &IMAGE));
+}
+
+extern "C" fn update_bytewise() {
+    black_box(proved::update_bytewise(0xFFFF, &IMAGE));
+}
+
+extern "C" fn whole() {
+    assert_eq!(proved::upload_whole(0x471, true, &IMAGE, out(), 1), 28);
+}
+
+extern "C" fn first_bytewise() {
+    assert_eq!(proved::upload_first_bytewise(0x471, true, &IMAGE, out()), 28);
+}
+
+extern "C" fn part() {
+    assert_eq!(proved::upload_parts(0x471, true, 4096, &IMAGE, out(), 1), 28);
+}
+
+const CALLS: [(&str, extern "C" fn()); 5] = [
+    ("the check, eight bytes at a time (`crc::update`)", update),
+    ("the check, byte-wise (`crc::update_bytewise`)", update_bytewise),
+    ("a step of a whole upload, checked (`WholeUpload::step`)", whole),
+    ("the same by the byte-wise check (`WholeUpload::step_bytewise`)", first_bytewise),
+    ("a part of 4,096 bytes, checked (`MaskRomOperation::part`)", part),
+];
+
+/// A table: bytes beyond what calling nothing takes.
+pub fn table() -> String {
+    let of = |call: extern "C" fn()| unsafe { loops_stack(call) };
+    let mut text = String::from("| call | bytes |\n|---|---|\n");
+    for (name, call) in CALLS {
+        call();
+        text += &format!("| {name} | {} |\n", of(call) - of(nothing));
+    }
+    text
+}
