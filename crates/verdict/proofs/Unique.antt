@@ -10,11 +10,13 @@ use Rattle.finish.specs.declared.FinishAnswer.{FinishAnswer}
 use Rattle.finish.specs.declared.FinishAnswer.the-variants.{Replied, Failed}
 use Rattle.finish.proofs.Unique.{answerOf, answer-of}
 use Rattle.mock.specs.declared.device.MockState.{MockState}
+use Rattle.runner.specs.declared.UsbRun.{UsbRun}
+use Rattle.loading.specs.declared.LoadRun.{LoadRun}
 use Rattle.verdict.specs.declared.Verdict.{Verdict}
 use Rattle.verdict.specs.declared.Verdict.the-variants.{Done, Refused}
 use Rattle.verdict.specs.declared.Dealt.{Dealt}
-use Rattle.verdict.specs.Verdict.{verdictTold}
-use Rattle.verdict.specs.Deal.{Head, head, Deal, DealMeets}
+use Rattle.verdict.specs.Verdict.{verdictTold, kept}
+use Rattle.verdict.specs.Deal.{Head, head, Deal, DealMeets, OperatedMeets, LoadedMeets}
 
 abbrev ofFinish : FinishAnswer → Verdict
 ofFinish (Replied reply) = Done reply
@@ -35,14 +37,28 @@ same-verdict v w b c e = sym (verdict-for v b) ∙ ap verdictFor e ∙ verdict-f
 abbrev dealtAs : Verdict → Beside → MockState → Dealt
 dealtAs verdict beside device = record { verdict = verdict; beside = beside; device = device }
 
+same-dealt : (r s : Dealt) → r .verdict ≡ s .verdict → r .beside ≡ s .beside → r .device ≡ s .device → r ≡ s
+same-dealt r s v b d =
+    let first : _≡_ {A = Dealt} r (dealtAs (s .verdict) (s .beside) (r .device)) =
+    ap₂ (λ (x : Verdict) (y : Beside). dealtAs x y (r .device)) v b in
+    first ∙ ap (dealtAs (s .verdict) (s .beside)) d
+
+pub operated-unique : (ran : UsbRun) (r s : Dealt) → OperatedMeets r ran → OperatedMeets s ran → r ≡ s
+operated-unique ran r s p q =
+    let verdicts = same-verdict (r .verdict) (s .verdict) (r .beside) (s .beside) (p .tells ∙ sym (q .tells)) in
+    same-dealt r s verdicts (p .beside ∙ ap (λ (v : Verdict). kept v (ran .beside)) verdicts ∙ sym (q .beside)) (p .device ∙ sym (q .device))
+
+pub loaded-unique : (ran : LoadRun) (r s : Dealt) → LoadedMeets r ran → LoadedMeets s ran → r ≡ s
+loaded-unique ran r s p q =
+    same-dealt r s (same-verdict (r .verdict) (s .verdict) (r .beside) (s .beside) (p .tells ∙ sym (q .tells)))
+    (p .beside ∙ sym (q .beside)) (p .device ∙ sym (q .device))
+
 pub deal-unique : (r s : Dealt) (flash₁ flash₂ store₁ store₂ : List ℕ) (d : Deal) → DealMeets r flash₁ store₁ d → DealMeets s flash₂ store₂ d
     → (r ≡ s) × (flash₁ ≡ flash₂) × (store₁ ≡ store₂)
 deal-unique r s flash₁ flash₂ store₁ store₂ d p q =
     let heads : head (r .device) flash₁ store₁ ≡ head (s .device) flash₂ store₂ = p .leaves ∙ sym (q .leaves) in
-    let verdicts : r .verdict ≡ s .verdict = same-verdict (r .verdict) (s .verdict) (r .beside) (s .beside) (p .tells ∙ sym (q .tells)) in
-    let first : _≡_ {A = Dealt} r (dealtAs (s .verdict) (s .beside) (r .device)) =
-    ap₂ (λ (v : Verdict) (b : Beside). dealtAs v b (r .device)) verdicts (p .beside ∙ sym (q .beside)) in (
-      first ∙ ap (λ (h : Head). dealtAs (s .verdict) (s .beside) (h .device)) heads,
+    let verdicts = same-verdict (r .verdict) (s .verdict) (r .beside) (s .beside) (p .tells ∙ sym (q .tells)) in (
+      same-dealt r s verdicts (p .beside ∙ sym (q .beside)) (ap (λ (h : Head). h .device) heads),
       ap (λ (h : Head). h .flash) heads,
       ap (λ (h : Head). h .store) heads,
     )
