@@ -29,7 +29,7 @@ rows-length f i zero = refl
 rows-length f i (suc n) = ap suc (rows-length f (suc i) n)
 
 -- two functions with the same rows agree: a fact on n cases is one computed test
-rows-same : (f g : ℕ → ℕ) (n : ℕ) → rows f 0 n ≡ rows g 0 n → (k : ℕ) → k < n → f k ≡ g k
+pub rows-same : (f g : ℕ → ℕ) (n : ℕ) → rows f 0 n ≡ rows g 0 n → (k : ℕ) → k < n → f k ≡ g k
 rows-same f g n e k h = sym (rows-at f n k h) ∙ ap (λ (l : List ℕ). getD l k 0) e ∙ rows-at g n k h
 
 -- a low byte only moves up

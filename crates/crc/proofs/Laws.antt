@@ -1,10 +1,12 @@
 -- What crates above cite: append, range, linearity over xor, and the check value.
 -- Assumes nothing.
-use Prim.Native.Nat.{ℕ, zero, suc, _+_, _*_, _/_, _%_, _^_, _<_}
+use Prim.Native.Nat.{ℕ, zero, suc, _+_, _*_, _/_, _%_, _^_, _≤_, _<_}
 use mathlib.Core.Path.{_≡_, refl, ap, sym, _∙_}
 use mathlib.Core.List.{List, [], _∷_, _++_}
+use native.Mathlib.Numerals.{add-one}
 use native.Mathlib.Omega.{arith}
-use lib.ListN.{length, take, drop, take-append-drop}
+use lib.ListN.{length, getD, take, drop, take-append-drop, drop-of-length-le}
+use lib.Seq.{drop-cons}
 use lib.Bits.{bitXor, xor-lt}
 use Rattle.crc.specs.Check.{polynomial, bitStep, bitsStep, byteStep, crcOver, check}
 use Rattle.crc.proofs.Linear.{byte-linear}
@@ -38,6 +40,19 @@ pub over-lt : (c : ℕ) (bs : List ℕ) → c < 2 ^ 16 → crcOver c bs < 2 ^ 16
 unfolding crcOver byteStep
 over-lt c [] h = h
 over-lt c (b ∷ bs) h = over-lt (byteStep c b) bs (bits-lt 8 c b h)
+
+pub step-lt : (c b : ℕ) → c < 2 ^ 16 → byteStep c b < 2 ^ 16
+unfolding crcOver
+step-lt c b h = over-lt c (b ∷ []) h
+
+-- a turn of a loop takes the next byte
+pub over-next : (c i : ℕ) (bs : List ℕ) → i < length bs → crcOver c (drop i bs) ≡ crcOver (byteStep c (getD bs i 0)) (drop (i + 1) bs)
+unfolding crcOver
+over-next c i bs h = ap (crcOver c) (drop-cons bs i 0 h) ∙ ap (λ (k : ℕ). crcOver (byteStep c (getD bs i 0)) (drop k bs)) (sym (add-one i))
+
+-- past the end nothing is left
+pub over-past : (c i : ℕ) (bs : List ℕ) → length bs ≤ i → crcOver c (drop i bs) ≡ c
+over-past c i bs h = ap (crcOver c) (drop-of-length-le bs h) ∙ over-empty c
 
 -- byte by byte, as far as both go
 unfoldable pub xorBytes : List ℕ → List ℕ → List ℕ

@@ -37,6 +37,14 @@ pub extern "C" fn otterarch_crc_update_bytewise(crc: u16, bytes: &[u8]) -> u16
     crc::update_bytewise(crc, bytes)
 }
 
+// The same a byte at a time by the 256-entry table, as the original does it and as `update` did before it took eight.
+#[no_mangle]
+pub extern "C" fn otterarch_crc_update_by_table(crc: u16, bytes: &[u8]) -> u16
+    ensures { λ r. ⌜ r ≡ crcOver crc (now (bytes .entry)) ⌝ }
+{
+    crc::update_by_table(crc, bytes)
+}
+
 // A whole upload to its finish, each transfer at the front of `out`: 0 or the number of the refusal, 28 past `budget` steps.
 #[no_mangle]
 pub extern "C" fn otterarch_upload_whole(

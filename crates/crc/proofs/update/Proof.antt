@@ -1,23 +1,19 @@
--- Either form has the register over all of the bytes, which are the first of themselves, as many as there are.
+-- Each form has the register over all of the bytes.
 -- Assumes nothing.
-use mathlib.Core.Path.{ap, sym, _∙_}
+use Prim.Native.Nat.{ℕ}
+use mathlib.Core.Path.{_≡_, ap, sym, _∙_}
+use mathlib.Core.List.{List}
 use denote.Ref.{now}
-use lib.ListN.{length}
+use lib.ListN.{length, take}
 use lib.Seq.{take-length}
 use borrow.Author.Needs.{needs}
 use Rattle.crc.specs.Check.{crcOver}
 use Rattle.crc.proofs.update.Statement.{statement}
 use Rattle.crc.proofs.update.Tie as tie
 
-returns : tie.Need-returns
-returns c =
-    let a = c .before .before .before .before .args in
-    c .update-bytewise .ensures ∙ ap (crcOver (a .crc)) (take-length (now (a .bytes)))
-
-returns-2 : tie.Need-returns-2
-returns-2 c =
-    let a = c .before .before .before .before .args in
-    c .update-by-eight .ensures ∙ ap (crcOver (a .crc)) (take-length (now (a .bytes)))
+-- all of the bytes are the first of themselves, as many as there are
+whole : (c : ℕ) (bs : List ℕ) → crcOver c (take (length bs) bs) ≡ crcOver c bs
+whole c bs = ap (crcOver c) (take-length bs)
 
 pub update-spec : {M : Type 1} → statement M
 update-spec =
@@ -25,6 +21,6 @@ update-spec =
     (tie.spec
     (λ c. sym (ap length (take-length (now (c .before .before .args .bytes)))))
     (λ c κs. search needs)
-    returns
+    (λ c. c .update-bytewise .ensures ∙ whole _ _)
     (λ c κs. search needs)
-    returns-2)
+    (λ c. c .update-by-eight .ensures ∙ whole _ _))

@@ -1,43 +1,36 @@
--- What the register makes of the bytes that are left stays what the start makes of all of them; the measure is how many are left.
+-- As `update_by_table`; and the register stays one in its wider number.
 -- Assumes nothing.
-use Prim.Native.Nat.{ℕ, _-_, _≤_, _<_}
-use mathlib.Core.Path.{_≡_, refl}
-use native.Mathlib.Numerals.{add-one}
+use Prim.Native.Nat.{ℕ, _+_, _-_, _≤_, _<_}
+use mathlib.Core.Path.{_≡_, refl, ap, sym, _∙_}
 use native.Mathlib.Omega.{arith}
 use denote.Ref.{now}
-use lib.ListN.{length, drop, drop-of-length-le}
-use lib.Seq.{drop-cons}
+use lib.ListN.{length, drop}
 use borrow.Author.Needs.{needs}
 use Rattle.crc.specs.Check.{crcOver}
+use Rattle.crc.proofs.Laws.{over-next, over-past}
 use Rattle.crc.proofs.update_bytewise.Statement.{statement}
 use Rattle.crc.proofs.update_bytewise.Tie as tie
 
 abbrev Inv-loop : tie.InvT-loop
-Inv-loop crc bytes t n c₀ i₀ c i = (i ≤ length bytes) × (crcOver c (drop i bytes) ≡ crcOver crc bytes)
+Inv-loop crc bytes end c₀ i₀ c i = (i ≤ length bytes) × (crcOver c (drop i bytes) ≡ crcOver crc bytes) × (c < 65536)
 
 abbrev μ-loop : tie.MeasureT-loop
-μ-loop crc bytes t n c₀ i₀ c i = length bytes - i
-
-loop-holds : tie.Need-loop-holds Inv-loop μ-loop
-loop-holds c = (omega arith, refl)
-
-byte-step-requires : tie.Need-byte-step-requires Inv-loop μ-loop
-byte-step-requires c κs = c .before .before .before .before .table .ensures
+μ-loop crc bytes end c₀ i₀ c i = length bytes - i
 
 loop-again : tie.Need-loop-again Inv-loop μ-loop
-unfolding crcOver
 loop-again c =
-    let l = c .before .before .before .before .loop in
-    let s = now (c .before .before .before .before .before .before .before .args .bytes) in
-    let more : l .i < length s = omega arith in
-    (omega arith, rw (c .byte-step .ensures, add-one) (rw (drop-cons s (l .i) 0 more) at (l .inv .1)))
+    let l = c .before .before .before .loop in
+    let s = now (c .before .before .before .before .before .args .bytes) in (
+      omega arith,
+      ap (λ (r : ℕ). crcOver r (drop (l .i + 1) s)) (c .computed-step .ensures .0) ∙ sym (over-next (l .c) (l .i) s (omega arith)) ∙ l .inv .1,
+      c .computed-step .ensures .1,
+    )
 
 returns : tie.Need-returns Inv-loop μ-loop
-unfolding crcOver
 returns c =
-    let s = now (c .before .before .before .before .args .bytes) in
-    let none : length s ≤ c .before .loop .i = omega arith in
-    rw (drop-of-length-le s none) at (c .before .loop .inv .1)
+    let l = c .before .loop in
+    let s = now (c .before .before .before .args .bytes) in
+    sym (over-past (l .c) (l .i) s (omega arith)) ∙ l .inv .1
 
 pub update-bytewise-spec : {M : Type 1} → statement M
 update-bytewise-spec =
@@ -45,11 +38,11 @@ update-bytewise-spec =
     (tie.spec
     Inv-loop
     μ-loop
-    (λ c κs. search needs)
-    loop-holds
+    (λ c. (omega arith, refl, omega arith))
     (λ c. omega arith)
-    byte-step-requires
+    (λ c κs. c .before .before .loop .inv .2)
     (λ c. omega arith)
     (λ c. omega arith)
     loop-again
+    (λ c. omega arith)
     returns)

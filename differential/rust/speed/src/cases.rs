@@ -245,7 +245,9 @@ pub fn all(scale: Scale) -> Vec<Case> {
     let bench = Rc::new(RefCell::new(Bench { mock: original::device(flash.clone()), flash }));
     let mut cases: Vec<Case> =
         [scale.image, 1, 8, 64, 512].map(|n| check(&image, n, proved::update, "")).into();
-    cases.push(check(&image, scale.image, proved::update_bytewise, ", byte-wise"));
+    for (update, form) in [(proved::update_bytewise as Update, ", byte-wise"), (proved::update_by_table, ", by the table")] {
+        cases.extend([scale.image, 1, 8, 64].map(|n| check(&image, n, update, form)));
+    }
     for checked in [true, false] {
         cases.push(upload(&image, checked, None));
         cases.extend(PARTS.map(|n| upload(&image, checked, Some(n))));
