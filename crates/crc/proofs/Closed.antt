@@ -1,11 +1,11 @@
 -- An entry of the table in closed form: one computed test over the 256 of them.
 -- Assumes nothing.
 use Prim.Native.Nat.{ℕ, _*_, _/_, _%_, _<_}
-use mathlib.Core.Path.{_≡_, refl, ap, sym, _∙_}
+use mathlib.Core.Path.{_≡_, refl}
 use lib.Bits.{bitXor}
 use Rattle.crc.specs.Check.{byteStep, bitsStep, bitStep}
 use Rattle.crc.specs.Table.{rows, entry}
-use Rattle.crc.proofs.Bytewise.{rows-same, bytewise}
+use Rattle.crc.proofs.Bytewise.{rows-same}
 
 -- an index folded onto itself, in three places
 unfoldable pub closed : ℕ → ℕ

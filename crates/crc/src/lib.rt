@@ -10,7 +10,7 @@ ghost use Rattle.crc.specs.Table.{entry, crcTable, after, sliceTables};
 
 const START: u16 = 0xFFFF;
 
-// Below this many bytes the eight tables may cost more than they save: measured they do below 24 (docs/speed.md).
+// Below about this many bytes building the eight tables costs more than they save (docs/DECISIONS.md).
 const SHORT: usize = 64;
 
 // Entry i is what eight zero bits make of the register i * 256.
