@@ -1,10 +1,9 @@
 -- The run of an upload by its transfers: each is one control write to the area, and behind the last comes the finish.
 -- Assumes nothing.
-use Prim.Native.Nat.{ℕ, zero, suc, _/_, _≤_}
+use Prim.Native.Nat.{ℕ, zero, suc, _≤_}
 use mathlib.Core.Path.{_≡_, refl, ap, ap₂, _∙_}
 use mathlib.Core.Bool.{Bool}
 use mathlib.Core.List.{List, [], _∷_, map}
-use native.Mathlib.Nat.{zero-add}
 use native.Mathlib.Omega.{arith}
 use lib.ListN.{length}
 use borrow.Author.Tests.{le-ltb}
@@ -16,10 +15,9 @@ use Rattle.maskrom.specs.declared.WholeUpload.{WholeUpload}
 use Rattle.maskrom.specs.Answers.{longest, writes, finish, control}
 use Rattle.maskrom.specs.Whole.{freshWhole, startStep, wholeStep}
 use Rattle.upload.specs.Upload.{uploadBytes, cut}
-use Rattle.upload.specs.Drive.{Transfer, transfer}
-use Rattle.upload.proofs.Ending.{upload-ending}
+use Rattle.upload.specs.Drive.{Transfer, transfer, transfersOf}
 use Rattle.upload.proofs.Sends.{Sends, finishes, sends}
-use Rattle.upload.proofs.WholeImage.{image-sends}
+use Rattle.upload.proofs.Theorems.{whole-start}
 use Rattle.mock.specs.declared.device.MockState.{MockState}
 use Rattle.mock.specs.Device.{Call, writeControl}
 use Rattle.budget.specs.Run.{ends, tells, outOfSteps, Ran, ran, counted, follow, runs}
@@ -99,7 +97,6 @@ starts-fresh area checked image h = rw (le-ltb longest (length image) h)
 pub fresh-loads : (area : ℕ) (checked : Bool) (image : List ℕ) (budget : ℕ) (device : MockState) (store : List ℕ)
     → Loads area (cut (uploadBytes checked image)) budget device store
     (runs (loadTurn image) budget (loadState (freshWhole area checked (length image)) device store))
+unfolding transfersOf
 fresh-loads area checked image budget device store =
-    let start = freshWhole area checked (length image) in
-    loads image area budget start (map (transfer area) (cut (uploadBytes checked image))) (cut (uploadBytes checked image))
-    (rw (upload-ending checked image) (image-sends image (length image / blockSize) start image refl refl refl (zero-add (length image)) refl refl)) refl device store
+    loads image area budget (freshWhole area checked (length image)) (transfersOf area checked image) (cut (uploadBytes checked image)) (whole-start area checked image) refl device store

@@ -65,7 +65,8 @@ started : (area : ℕ) (checked : Bool) (image : List ℕ) → length image ≤ 
 unfolding startStep unless
 started area checked image l = rw (le-ltb longest (length image) l)
 
-whole-start : (area : ℕ) (checked : Bool) (image : List ℕ)
+-- a whole upload sends the transfers of its image
+pub whole-start : (area : ℕ) (checked : Bool) (image : List ℕ)
     → Sends (λ (u : WholeUpload) (room : ℕ). wholeStep u image room) (freshWhole area checked (length image)) (transfersOf area checked image)
 unfolding transfersOf
 whole-start area checked image =
