@@ -1,27 +1,8 @@
--- The fields of the block that was read, or the number of the refusal, as the definition puts them.
+-- The contract of the function that it calls is its own.
 -- Assumes nothing.
-use mathlib.Core.Path.{ap, sym, _∙_}
-use Prim.Native.Nat.{ℕ, _*_}
 use borrow.Author.Needs.{needs}
-use Rattle.protocol.specs.declared.CommandAnswer.{CommandAnswer}
-use Rattle.protocol.specs.CommandMeets.{commandTold}
-use Rattle.exported.specs.Command.{fieldsOf}
 use Rattle.exported.proofs.otterarch_command_read.Statement.{statement}
 use Rattle.exported.proofs.otterarch_command_read.Tie as tie
 
-returns : tie.Need-returns
-unfolding commandTold
-returns c =
-    let r = c .before .before .before .before .from-bytes in
-    c .of-command .ensures
-    ∙ sym (ap (λ (a : CommandAnswer). fieldsOf (commandTold a (r .result .signature))) (c .before .before .answer .given .1)) ∙ ap fieldsOf (r .ensures .tells)
-
-returns-2 : tie.Need-returns-2
-unfolding commandTold fieldsOf
-returns-2 c =
-    let r = c .before .before .before .before .from-bytes in
-    ap (λ (n : ℕ). n * 72057594037927936) (c .of-command-error .ensures)
-    ∙ sym (ap (λ (a : CommandAnswer). fieldsOf (commandTold a (r .result .signature))) (c .before .before .answer2 .given .1)) ∙ ap fieldsOf (r .ensures .tells)
-
 pub otterarch-command-read-spec : {M : Type 1} → statement M
-otterarch-command-read-spec = tie.close (tie.spec (λ c κs. search needs) (λ c. search needs) (λ c κs. search needs) (λ c. search needs) (λ c κs. search needs) (λ c. search needs) (λ c. search needs) returns returns-2)
+otterarch-command-read-spec = tie.close (tie.spec (λ c κs. search needs) (λ c. c .read-command .ensures))

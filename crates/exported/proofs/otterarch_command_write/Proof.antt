@@ -1,24 +1,8 @@
--- The writer's answer as a number, and its output.
+-- The contract of the function that it calls is its own.
 -- Assumes nothing.
-use mathlib.Core.Path.{ap, _∙_}
-use denote.Ref.{now}
-use lib.ListN.{length}
 use borrow.Author.Needs.{needs}
-use Rattle.wire.specs.Told.{number}
-use Rattle.wire.specs.Bytes.{front}
-use Rattle.protocol.specs.declared.CommandBlock.{CommandBlock}
-use Rattle.protocol.specs.CommandBytes.{writeCommand}
 use Rattle.exported.proofs.otterarch_command_write.Statement.{statement}
 use Rattle.exported.proofs.otterarch_command_write.Tie as tie
 
-returns : tie.Need-returns
-returns c =
-    let w = c .before .before .before .to-bytes .ensures in
-    let k = c .before .before .before .before .before .read-lba .ensures in
-    let out = now (c .before .before .before .before .before .before .before .args .out) in (
-      c .of-written .ensures ∙ ap number (w .tells) ∙ ap (λ (x : CommandBlock). number (writeCommand x (length out) .told)) k,
-      w .leaves ∙ ap (λ (x : CommandBlock). front (writeCommand x (length out) .sent) out) k,
-    )
-
 pub otterarch-command-write-spec : {M : Type 1} → statement M
-otterarch-command-write-spec = tie.close (tie.spec (λ c κs. search needs) (λ c κs. search needs) (λ c κs. search needs) (λ c. search needs) returns)
+otterarch-command-write-spec = tie.close (tie.spec (λ c κs. search needs) (λ c. search needs) (λ c. c .before .before .write-command .ensures))

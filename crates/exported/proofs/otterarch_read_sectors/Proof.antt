@@ -1,35 +1,8 @@
--- Data that is no sectors is refused with the number that its count tells; else the run's own answer, flash and data.
+-- The contract of the function that it calls is its own.
 -- Assumes nothing.
-use mathlib.Core.Path.{ap, sym, _∙_}
-use denote.Ref.{now}
-use lib.ListN.{length}
 use borrow.Author.Needs.{needs}
-use Rattle.wire.specs.Told.{number}
-use Rattle.reply.specs.Sectors.{sectorsIn}
-use Rattle.exported.specs.Sectors.{Carried, reading}
-use Rattle.exported.proofs.Told.{carries-refused, carries-run}
 use Rattle.exported.proofs.otterarch_read_sectors.Statement.{statement}
 use Rattle.exported.proofs.otterarch_read_sectors.Tie as tie
 
-returns : tie.Need-returns
-returns c =
-    let a = c .before .before .before .before .before .args in
-    let s = c .before .before .read-lba .ensures in
-    let n = c .before .of-sectors in
-    let told = n .ensures ∙ ap number (s .tells) in
-    let none = carries-refused (reading (a .first)) (now (a .flash)) (now (a .«data»)) (sectorsIn (length (now (a .«data»)))) (λ e. c .if1 .taken (told ∙ e)) in
-    record { tells = told ∙ sym (ap (λ (x : Carried). x .number) none); flash = sym (ap (λ (x : Carried). x .flash) none); leaves = sym (ap (λ (x : Carried). x .«data») none) }
-
-returns-2 : tie.Need-returns-2
-returns-2 c =
-    let a = c .before .before .before .before .before .before .before .before .before .before .before .before .before .before .before .before .args in
-    let s = c .before .before .before .before .before .before .before .before .before .before .before .before .before .read-lba in
-    let n = c .before .before .before .before .before .before .before .before .before .before .before .before .of-sectors in
-    let run = c .before .before .before .before .before .run-whole in
-    let some = sym (n .ensures) ∙ c .before .before .before .before .before .before .before .before .before .before .before .if1 .left in
-    carries-run (reading (a .first)) (now (a .flash)) (now (a .«data»)) (s .result .answer) (length (now (a .«data»))) (s .result .operation) (c .before .before .before .before .before .before .before .before .before .fresh-device .result)
-    (s .ensures .tells) some (s .ensures .operation) (c .before .before .before .before .before .before .before .before .before .fresh-device .ensures)
-    (run .result) (c .of-run .result) (run .last .1 .1 .0) (run .last .1 .1 .1 .1 .0) (run .ensures) (c .of-run .ensures (run .result .beside))
-
 pub otterarch-read-sectors-spec : {M : Type 1} → statement M
-otterarch-read-sectors-spec = tie.close (tie.spec (λ c κs. search needs) (λ c κs. search needs) returns (λ c κs. search needs) (λ c. search needs) (λ c κs. search needs) (λ c κs. search needs) (λ c. search needs) (λ c. search needs) returns-2)
+otterarch-read-sectors-spec = tie.close (tie.spec (λ c κs. search needs) (λ c. search needs) (λ c. search needs) (λ c. c .before .before .before .before .read-sectors .ensures))

@@ -1,0 +1,2 @@
+-- `Told` has what a number says of the rest of the call.
+pub mod Told

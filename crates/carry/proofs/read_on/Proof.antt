@@ -1,0 +1,18 @@
+-- The run at the device that is made, told as a number.
+-- Assumes nothing.
+use denote.Ref.{now}
+use borrow.Author.Needs.{needs}
+use Rattle.carry.proofs.Told.{ran-at}
+use Rattle.carry.proofs.read_on.Statement.{statement}
+use Rattle.carry.proofs.read_on.Tie as tie
+
+returns : tie.Need-returns
+returns c =
+    let a = c .before .before .before .before .before .before .before .before .before .before .before .before .args in
+    let d = c .before .before .before .before .before .before .before .before .before .fresh-device in
+    let run = c .before .before .before .before .before .run-whole in
+    ran-at (a .operation) (d .result) (now (a .flash)) (now (a .«data»)) (d .ensures) (run .result) (c .of-run .result) (run .last .1 .1 .0) (run .last .1 .1 .1 .1 .0) (run .ensures)
+    (c .of-run .ensures (run .result .beside))
+
+pub read-on-spec : {M : Type 1} → statement M
+read-on-spec = tie.close (tie.spec (λ c κs. search needs) (λ c. search needs) (λ c κs. search needs) (λ c κs. search needs) (λ c. search needs) (λ c. search needs) returns)

@@ -1,0 +1,40 @@
+// Uploads driven to their end over one lent output: 0 or the number of the refusal.
+mod uploads;
+
+use maskrom::UploadStart;
+ghost use Rattle.drive.specs.Drive.{DriveMeets, wholeDrive, partDrive};
+
+// A whole upload to its finish, each transfer at the front of `out`: 28 past `budget` steps.
+pub fn whole(area: u16, checked: bool, image: &[u8], out: &mut [u8], budget: u32) -> u8
+    ensures { λ r. ⌜ DriveMeets r (now (out .exit)) (wholeDrive area checked (now (image .entry)) (now (out .entry)) budget) ⌝ }
+{
+    let started = uploads::start(area, checked, image);
+    let start = started.start;
+    let UploadStart::Started = start else {
+        return 25;
+    };
+    uploads::whole_on(started.upload, image, out, budget)
+}
+
+// Its first step alone, by the byte-wise check: 28, unless that step is the last.
+pub fn first_bytewise(area: u16, checked: bool, image: &[u8], out: &mut [u8]) -> u8
+    ensures { λ r. ⌜ DriveMeets r (now (out .exit)) (wholeDrive area checked (now (image .entry)) (now (out .entry)) 1) ⌝ }
+{
+    let started = uploads::start(area, checked, image);
+    let start = started.start;
+    let UploadStart::Started = start else {
+        return 25;
+    };
+    uploads::first_bytewise(started.upload, image, out)
+}
+
+// A whole upload in parts of `size` bytes, handed over by `budget` calls at most.
+pub fn parts(area: u16, checked: bool, size: usize, image: &[u8], out: &mut [u8], budget: u32) -> u8
+    ensures { λ r. ⌜ DriveMeets r (now (out .exit)) (partDrive area checked size (now (image .entry)) (now (out .entry)) budget) ⌝ }
+{
+    let over = uploads::hand_over(uploads::fresh(area, checked), size, image, out, budget);
+    if over.number != 0 {
+        return over.number;
+    }
+    uploads::close_on(over.operation, out)
+}

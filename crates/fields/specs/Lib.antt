@@ -1,0 +1,2 @@
+-- `Command`: a command as one number.
+pub mod Command
