@@ -26,7 +26,7 @@ use Rattle.card.specs.declared.Request.{Request}
 use Rattle.card.specs.declared.Request.the-variants as request
 use Rattle.card.specs.Reading.{readCard}
 use Rattle.verdict.specs.Deal.{Head, head}
-use Rattle.deck.specs.Dealing.{operate, loadOf, load, carryOut, dealAsked, dealBlock}
+use Rattle.dealing.specs.Dealing.{operate, loadOf, load, carryOut, dealAsked, dealBlock}
 
 pub record Ready (sectors : ℕ) (h : Head) : Type 0 where
   pub stands : Standing (h .device) (h .flash) (length (h .store)) sectors

@@ -27,7 +27,7 @@ use Rattle.card.proofs.Fitting.{Named, asked-named}
 use Rattle.card.proofs.Refusals.{isAmong, blockRefusals, CardTold, card-told}
 use Rattle.verdict.specs.Verdict.{numbered, loadTold}
 use Rattle.verdict.specs.Deal.{Head}
-use Rattle.deck.specs.Dealing.{operate, loadOf, load, carryOut, dealAsked, dealBlock}
+use Rattle.dealing.specs.Dealing.{operate, loadOf, load, carryOut, dealAsked, dealBlock}
 use Rattle.between.proofs.Ready.{Ready}
 
 -- of what a block asks for, and of the block itself

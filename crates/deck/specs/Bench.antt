@@ -10,7 +10,7 @@ use Rattle.verdict.specs.Verdict.{verdictTold, besideDealt}
 use Rattle.verdict.specs.Deal.{Deal, head}
 use Rattle.deck.specs.declared.Bench.{Bench}
 use Rattle.deck.specs.declared.DeckStep.{DeckStep}
-use Rattle.deck.specs.Dealing.{dealBlock}
+use Rattle.dealing.specs.Dealing.{dealBlock}
 
 -- "The device starts as the Rust's default"
 abbrev pub freshBench : ℕ → Bench

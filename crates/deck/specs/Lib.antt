@@ -1,3 +1,2 @@
--- The deck's rules: `Dealing` is what one block does to the head, `Bench` how blocks are counted and what a step promises.
-pub mod Dealing
+-- The deck's rules from block to block: `Bench` is how blocks are counted and what a step promises.
 pub mod Bench

@@ -8,6 +8,8 @@ use native.Mathlib.Omega.{arith}
 use lib.Dec.{ltb}
 use lib.ListN.{length, take, drop, replicate, length-replicate, replicate-append-replicate}
 use lib.Seq.{length-take-le, take-at}
+use types.Run.{OneOf, miss}
+use denote.Enum.Declared.{tagOf}
 use Rattle.wire.specs.Told.{Told, given, refused, andThen}
 use Rattle.wire.specs.Rules.{rule}
 use Rattle.wire.specs.Bytes.{front}
@@ -32,6 +34,7 @@ use Rattle.steps.specs.declared.UsbOperation.{UsbOperation}
 use Rattle.steps.specs.declared.UsbStep.{UsbStep}
 use Rattle.steps.specs.declared.UsbStep.the-variants as step
 use Rattle.steps.specs.declared.UsbStepped.{UsbStepped}
+use Rattle.steps.proofs.UsbStep.{the-type}
 use Rattle.steps.specs.Step.{Asks, writesCommand, writesData, reads, finished, finishedTold, usbStep, stepTold, besideAsks, besideAt, StepMeets}
 use Rattle.steps.specs.Give.{Give, keeps, nothingAsked, asksFor, owed, giveOf}
 use Rattle.steps.specs.Give as give
@@ -42,19 +45,10 @@ use Rattle.turns.specs.declared.Stop.{Stop}
 use Rattle.turns.specs.declared.Stop.the-variants as stop
 use Rattle.turns.specs.declared.UsbTurned.{UsbTurned}
 use Rattle.turns.specs.Turn.{UsbState, usbState, onward, wrote, landed, gives, received, got, bufferFor, transfers, usbTurn}
-use Rattle.turns.specs.Answers.{stopTold, signatureTold, besideTold, turnTold, endedBy, besideTurned, TurnMeets}
+use Rattle.turns.specs.Answers.{stopTold, signatureTold, besideTold, turnTold, turnAfter, whereDone, stopAt, turnedBy, endedBy, besideTurned, TurnMeets}
 use Rattle.turns.proofs.Fine.{Fine, FineRead, fine}
 
 -- the device's answer
-
-pub done-told : (a : MockAnswer) (told : Told Unit) → Answers a told → a .result ≡ Done → told ≡ given tt
-unfolding resultTold
-done-told a told m e = sym (m .tells) ∙ ap (λ (r : MockResult). resultTold r (a .signature)) e
-
-pub refused-told : (a : MockAnswer) (told : Told Unit) (error : MockTransportError) → Answers a told → a .result ≡ Refused error
-    → told ≡ errorTold error (a .signature)
-unfolding resultTold
-refused-told a told error m e = sym (m .tells) ∙ ap (λ (r : MockResult). resultTold r (a .signature)) e
 
 error-signature : (e : MockTransportError) (g : List ℕ) → signatureTold (errorNumber e) (errorValues e g) ≡ signatureBeside (errorTold e g)
 unfolding signatureTold
@@ -72,19 +66,17 @@ error-signature (error.FlashSize n) g = refl
 error-signature error.TooManySectors g = refl
 error-signature error.StoreLength g = refl
 
-pub accepted : (r : UsbTurned) (told : Told Unit) (s : UsbState) (flash bytes : List ℕ) → told ≡ given tt → TurnMeets r flash bytes (goes s)
-    → TurnMeets r flash bytes (onward told s)
-unfolding onward
-accepted r told s flash bytes e m = subst (λ (t : Told Unit). TurnMeets r flash bytes (onward t s)) (sym e) m
-
-pub not-accepted : (a : MockAnswer) (told : Told Unit) (error : MockTransportError) (op : UsbOperation) (device : MockState) (flash bytes : List ℕ)
-    → Answers a told → a .result ≡ Refused error
-    → TurnMeets (endedBy (stop.Device error) (blank (a .signature)) op device) flash bytes (onward told (usbState op device flash bytes))
-unfolding onward turnTold stopTold besideTurned besideTold
-not-accepted a told error op device flash bytes m e =
-    let t : told ≡ errorTold error (a .signature) = refused-told a told error m e in
-    subst (λ (t : Told Unit). TurnMeets (endedBy (stop.Device error) (blank (a .signature)) op device) flash bytes (onward t (usbState op device flash bytes))) (sym t)
-    (record { tells = refl; beside = ap blank (m .signature ∙ ap signatureBeside t ∙ sym (error-signature error (a .signature))) })
+-- the device's answer is told, with the signature that it has beside it, and nothing else changes
+pub after-answer : (x : MockResult) (g : List ℕ) (told : Told Unit) (op : UsbOperation) (device : MockState) (flash bytes : List ℕ)
+    → resultTold x g ≡ told → g ≡ signatureBeside told
+    → TurnMeets (turnedBy (turnAfter x) (blank g) op device) flash bytes (onward told (usbState op device flash bytes))
+unfolding resultTold turnAfter onward turnTold stopTold besideTurned besideTold signatureBeside
+after-answer Done g told op device flash bytes e s =
+    subst (λ (t : Told Unit). TurnMeets (turnedBy (turnAfter Done) (blank g) op device) flash bytes (onward t (usbState op device flash bytes))) e
+    (record { tells = refl; beside = ap blank (s ∙ ap signatureBeside (sym e)) })
+after-answer (Refused error) g told op device flash bytes e s =
+    subst (λ (t : Told Unit). TurnMeets (turnedBy (turnAfter (Refused error)) (blank g) op device) flash bytes (onward t (usbState op device flash bytes))) e
+    (record { tells = refl; beside = ap blank (s ∙ ap signatureBeside (sym e) ∙ sym (error-signature error g)) })
 
 -- a transfer, from what its call left
 
@@ -95,26 +87,29 @@ written r op w state flash bytes e f m =
     subst (λ (d : MockState). TurnMeets r flash bytes (onward (w .told) (usbState op d (w .leaves) bytes))) e
     (subst (λ (l : List ℕ). TurnMeets r flash bytes (onward (w .told) (usbState op state l bytes))) f m)
 
-module _ (r : UsbTurned) (a : MockAnswer) (what : Asked) (op : UsbOperation) (state : MockState) (flash bytes : List ℕ) (g : Call) (e : state ≡ g .next) (m : Answers a (g .told)) where
-  pub read-refused : (error : MockTransportError) → a .result ≡ Refused error → TurnMeets r flash bytes (onward (g .told) (usbState op state flash bytes))
-      → TurnMeets r flash bytes (received (g .told) what (usbState op (g .next) flash bytes) (g .leaves))
-  unfolding onward received
-  read-refused error f t =
-      let told : g .told ≡ errorTold error (a .signature) = refused-told a (g .told) error m f in
-      subst (λ (d : MockState). TurnMeets r flash bytes (received (g .told) what (usbState op d flash bytes) (g .leaves))) e
-      (subst (λ (x : Told Unit). TurnMeets r flash bytes (onward x (usbState op state flash bytes)) → TurnMeets r flash bytes (received x what (usbState op state flash bytes) (g .leaves))) (sym told)
-      (λ (h : TurnMeets r flash bytes (onward (errorTold error (a .signature)) (usbState op state flash bytes))). h) t)
+-- what is read is given where the device did it, and a refused read is the end
+as-received : (x : MockResult) (g : List ℕ) (told : Told Unit) (what : Asked) (op : UsbOperation) (device : MockState) (flash bytes l : List ℕ) → resultTold x g ≡ told
+    → gives what (usbState op device flash bytes) l ≡ usbState (gives what (usbState op device flash bytes) l .operation) device flash bytes
+    → onward told (usbState (whereDone x (gives what (usbState op device flash bytes) l .operation) op) device flash bytes) ≡ received told what (usbState op device flash bytes) l
+unfolding resultTold onward received
+as-received Done g told what op device flash bytes l e same =
+    subst
+    (λ (t : Told Unit). onward t (usbState (gives what (usbState op device flash bytes) l .operation) device flash bytes) ≡ received t what (usbState op device flash bytes) l) e
+    (ap goes (sym same))
+as-received (Refused error) g told what op device flash bytes l e same =
+    subst (λ (t : Told Unit). onward t (usbState op device flash bytes) ≡ received t what (usbState op device flash bytes) l) e refl
 
-  pub read-done : (next : UsbOperation) → a .result ≡ Done → next ≡ gives what (usbState op state flash bytes) (g .leaves) .operation
-      → gives what (usbState op state flash bytes) (g .leaves) ≡ usbState (gives what (usbState op state flash bytes) (g .leaves) .operation) state flash bytes
-      → TurnMeets r flash bytes (goes (usbState next state flash bytes))
-      → TurnMeets r flash bytes (received (g .told) what (usbState op (g .next) flash bytes) (g .leaves))
-  unfolding received
-  read-done next f n same t =
-      let told : g .told ≡ given tt = done-told a (g .told) m f in
-      subst (λ (d : MockState). TurnMeets r flash bytes (received (g .told) what (usbState op d flash bytes) (g .leaves))) e
-      (subst (λ (x : Told Unit). TurnMeets r flash bytes (received x what (usbState op state flash bytes) (g .leaves))) (sym told)
-      (subst (λ (s : UsbState). TurnMeets r flash bytes (goes s)) (ap (λ (o : UsbOperation). usbState o state flash bytes) n ∙ sym same) t))
+pub read-meets : (r : UsbTurned) (a : MockAnswer) (what : Asked) (op next : UsbOperation) (state : MockState) (flash bytes : List ℕ) (g : Call)
+    → Answers a (g .told) → state ≡ g .next
+    → gives what (usbState op state flash bytes) (g .leaves) ≡ usbState (gives what (usbState op state flash bytes) (g .leaves) .operation) state flash bytes
+    → next ≡ whereDone (a .result) (gives what (usbState op state flash bytes) (g .leaves) .operation) op
+    → TurnMeets r flash bytes (onward (g .told) (usbState next state flash bytes))
+    → TurnMeets r flash bytes (received (g .told) what (usbState op (g .next) flash bytes) (g .leaves))
+read-meets r a what op next state flash bytes g m e same n t =
+    subst (λ (d : MockState). TurnMeets r flash bytes (received (g .told) what (usbState op d flash bytes) (g .leaves))) e
+    (subst (λ (u : Turned Reply UsbState). TurnMeets r flash bytes u)
+    (ap (λ (o : UsbOperation). onward (g .told) (usbState o state flash bytes)) n
+    ∙ as-received (a .result) (a .signature) (g .told) what op state flash bytes (g .leaves) (m .tells) same) t)
 
 -- an empty giving puts nothing into the caller's data
 received-none : (what : Asked) (op : UsbOperation) → give.received what op [] .put ≡ []
@@ -225,34 +220,47 @@ module _ (s : UsbState) (stepped : UsbStepped) (out : List ℕ) (m : StepMeets s
         ∙ sym (turned-by (step.ReadStatus n) e)) t
 
   -- the end, with what stands beside it
-  pub ends-meets : (x : UsbStep) (stop : Stop) → stepped .step ≡ x
+  ends-meets : (x : UsbStep) → stepped .step ≡ x
       → transfers (stepTold x (stepped .beside)) (usbStep (s .operation) (length (s .«data»)) 31 .sent) (usbState (stepped .next) (s .device) (s .flash) (s .«data»))
-      ≡ ends (stopTold stop (stepped .beside)) (usbState (stepped .next) (s .device) (s .flash) (s .«data»))
-      → besideAt (stepTold x (stepped .beside)) ≡ besideTold (stopTold stop (stepped .beside))
-      → TurnMeets (endedBy stop (stepped .beside) (stepped .next) (s .device)) (s .flash) (s .«data») (usbTurn s)
+      ≡ ends (stopTold (stopAt x) (stepped .beside)) (usbState (stepped .next) (s .device) (s .flash) (s .«data»))
+      → besideAt (stepTold x (stepped .beside)) ≡ besideTold (stopTold (stopAt x) (stepped .beside))
+      → TurnMeets (endedBy (stopAt (stepped .step)) (stepped .beside) (stepped .next) (s .device)) (s .flash) (s .«data») (usbTurn s)
   unfolding turnTold besideTurned
-  ends-meets x stop e f b =
-      subst (λ (u : Turned Reply UsbState). TurnMeets (endedBy stop (stepped .beside) (stepped .next) (s .device)) (s .flash) (s .«data») u)
+  ends-meets x e f b =
+      subst (λ (y : UsbStep). TurnMeets (endedBy (stopAt y) (stepped .beside) (stepped .next) (s .device)) (s .flash) (s .«data») (usbTurn s)) (sym e)
+      (subst (λ (u : Turned Reply UsbState). TurnMeets (endedBy (stopAt x) (stepped .beside) (stepped .next) (s .device)) (s .flash) (s .«data») u)
       (sym (turned-by x e ∙ f))
-      (record { tells = refl; beside = m .beside ∙ ap besideAt (asked-for x e) ∙ b })
+      (record { tells = refl; beside = m .beside ∙ ap besideAt (asked-for x e) ∙ b }))
 
-  pub finish-meets : (finish : FinishAnswer) → stepped .step ≡ step.Finished finish
-      → TurnMeets (endedBy (stop.Finished finish) (stepped .beside) (stepped .next) (s .device)) (s .flash) (s .«data») (usbTurn s)
-  unfolding stepTold stopTold
+  finish-meets : (finish : FinishAnswer) → stepped .step ≡ step.Finished finish
+      → TurnMeets (endedBy (stopAt (stepped .step)) (stepped .beside) (stepped .next) (s .device)) (s .flash) (s .«data») (usbTurn s)
+  unfolding stepTold stopTold stopAt
   finish-meets finish e =
-      ends-meets (step.Finished finish) (stop.Finished finish) e
+      ends-meets (step.Finished finish) e
       (finished-ends (finishTold finish (stepped .beside)) (usbStep (s .operation) (length (s .«data»)) 31 .sent) (usbState (stepped .next) (s .device) (s .flash) (s .«data»)))
       (beside-finish finish (stepped .beside))
 
-  pub short-meets : stepped .step ≡ step.OutputTooShort
-      → TurnMeets (endedBy stop.OutputTooShort (stepped .beside) (stepped .next) (s .device)) (s .flash) (s .«data») (usbTurn s)
-  unfolding stepTold stopTold transfers besideAt besideOf besideTold signatureTold signatureBeside innerSignature signatureIn
-  short-meets e = ends-meets step.OutputTooShort stop.OutputTooShort e refl refl
+  short-meets : stepped .step ≡ step.OutputTooShort
+      → TurnMeets (endedBy (stopAt (stepped .step)) (stepped .beside) (stepped .next) (s .device)) (s .flash) (s .«data») (usbTurn s)
+  unfolding stepTold stopTold stopAt transfers besideAt besideOf besideTold signatureTold signatureBeside innerSignature signatureIn
+  short-meets e = ends-meets step.OutputTooShort e refl refl
 
-  pub differs-meets : stepped .step ≡ step.DataDiffers
-      → TurnMeets (endedBy stop.DataDiffers (stepped .beside) (stepped .next) (s .device)) (s .flash) (s .«data») (usbTurn s)
-  unfolding stepTold stopTold transfers besideAt besideOf besideTold signatureTold signatureBeside innerSignature signatureIn
-  differs-meets e = ends-meets step.DataDiffers stop.DataDiffers e refl refl
+  differs-meets : stepped .step ≡ step.DataDiffers
+      → TurnMeets (endedBy (stopAt (stepped .step)) (stepped .beside) (stepped .next) (s .device)) (s .flash) (s .«data») (usbTurn s)
+  unfolding stepTold stopTold stopAt transfers besideAt besideOf besideTold signatureTold signatureBeside innerSignature signatureIn
+  differs-meets e = ends-meets step.DataDiffers e refl refl
+
+  -- what the run's `_` arm knows is that no transfer is asked for
+  pub stop-meets : (x : UsbStep) → stepped .step ≡ x → OneOf (5 ∷ 6 ∷ 7 ∷ []) (tagOf the-type x)
+      → TurnMeets (endedBy (stopAt (stepped .step)) (stepped .beside) (stepped .next) (s .device)) (s .flash) (s .«data») (usbTurn s)
+  stop-meets step.WriteCommand e h = absurd (miss (5 ∷ 6 ∷ 7 ∷ []) 0 tt h)
+  stop-meets (step.WriteData n) e h = absurd (miss (5 ∷ 6 ∷ 7 ∷ []) 1 tt h)
+  stop-meets (step.ReadInband n) e h = absurd (miss (5 ∷ 6 ∷ 7 ∷ []) 2 tt h)
+  stop-meets (step.ReadData n) e h = absurd (miss (5 ∷ 6 ∷ 7 ∷ []) 3 tt h)
+  stop-meets (step.ReadStatus n) e h = absurd (miss (5 ∷ 6 ∷ 7 ∷ []) 4 tt h)
+  stop-meets (step.Finished finish) e h = finish-meets finish e
+  stop-meets step.OutputTooShort e h = short-meets e
+  stop-meets step.DataDiffers e h = differs-meets e
 
 -- a part that was lent and comes back `last` stands at the front of the whole
 pub lent-front : (size : ℕ) (room last buffer : List ℕ) → size ≤ length room → length last ≡ length (take size room) → last ≡ buffer

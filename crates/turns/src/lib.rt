@@ -6,21 +6,22 @@ use finish::Beside;
 use finish::FinishAnswer;
 use finish::Kind;
 use mock::device::MockState;
+use mock::device::MockStep;
 use steps::UsbOperation;
 use steps::UsbStep;
 use steps::UsbStepped;
 ghost use mathlib.Core.Path.{_≡_};
 ghost use mathlib.Core.List.{List, []};
 ghost use Prim.Native.Nat.{ℕ, _≤_};
-ghost use lib.ListN.{length, take};
+ghost use lib.ListN.{length, take, replicate};
 ghost use Rattle.wire.specs.Told.{Told};
 ghost use Rattle.answer.specs.Told.{Answers};
 ghost use Rattle.steps.specs.declared.Asked.the-variants as asked;
 ghost use Rattle.steps.specs.Step.{StepMeets, usbStep};
+ghost use Rattle.steps.specs.Give.{usbGive};
 ghost use Rattle.mock.specs.Device.{writeBulk, readBulk};
-ghost use Rattle.budget.specs.Run.{goes};
 ghost use Rattle.turns.specs.Turn.{usbState, onward, wrote, got, isWrite, lentTo, usbTurn};
-ghost use Rattle.turns.specs.Answers.{TurnMeets, endedBy};
+ghost use Rattle.turns.specs.Answers.{TurnMeets, turnAfter, whereDone, stopAt, endedBy};
 
 // What a run stops with before its budget is used.
 pub enum Stop {
@@ -63,44 +64,32 @@ pub fn is_write(kind: Kind) -> bool
     }
 }
 
-fn goes_on(operation: UsbOperation, device: MockState) -> UsbTurned
-    ensures { λ r. ⌜ ((flash bytes : List ℕ) → TurnMeets r flash bytes (goes (usbState operation device flash bytes))) ⌝ }
-{
-    let beside = Beside::blank([0, 0, 0, 0]);
-    UsbTurned {
-        turn: Turn::Goes,
-        beside,
-        operation,
-        device,
-    }
-}
-
-fn ends_with(stop: Stop, beside: Beside, operation: UsbOperation, device: MockState) -> UsbTurned
-    ensures { λ r. ⌜ r ≡ endedBy stop beside operation device ⌝ }
-{
-    UsbTurned {
-        turn: Turn::Ends(stop),
-        beside,
-        operation,
-        device,
-    }
-}
-
-// After a transfer that the device answered so.
-fn after_transfer(operation: UsbOperation, device: MockState, answer: MockAnswer) -> UsbTurned
-    ensures { λ r. ⌜ ((told : Told Unit) (flash bytes : List ℕ) → Answers answer told → TurnMeets r flash bytes (onward told (usbState operation device flash bytes))) ⌝ }
+// What the device's answer to a transfer makes of the run.
+fn turn_after(answer: MockAnswer) -> Turn
+    ensures { λ r. ⌜ r ≡ turnAfter (answer .result) ⌝ }
 {
     let result = answer.result;
     let MockResult::Refused(error) = result else {
-        return goes_on(operation, device);
+        return Turn::Goes;
     };
+    Turn::Ends(Stop::Device(error))
+}
+
+// After a transfer that the device answered so. Its answer has a signature where it is refused with one, and zeros elsewhere, as a run's has.
+fn after_transfer(operation: UsbOperation, done: MockStep) -> UsbTurned
+    ensures { λ r. ⌜ ((told : Told Unit) (flash bytes : List ℕ) → Answers (done .answer) told → TurnMeets r flash bytes (onward told (usbState operation (done .state) flash bytes))) ⌝ }
+{
+    let answer = done.answer;
     let signature = answer.signature;
-    ends_with(
-        Stop::Device(error),
-        Beside::blank(signature),
+    let turn = turn_after(answer);
+    let beside = Beside::blank(signature);
+    let device = done.state;
+    UsbTurned {
+        turn,
+        beside,
         operation,
         device,
-    )
+    }
 }
 
 fn write_turn(
@@ -112,30 +101,37 @@ fn write_turn(
     ensures { λ r. ⌜ ((lent : List ℕ) → TurnMeets r (now (flash .exit)) lent (wrote (usbState operation device (now (flash .entry)) lent) (writeBulk device (now (flash .entry)) (now (bytes .entry))))) ⌝ }
 {
     let written = device.write_bulk(flash, bytes);
-    let answer = written.answer;
-    let state = written.state;
-    after_transfer(operation, state, answer)
+    after_transfer(operation, written)
 }
 
-// A status or a reply into the run's own buffer.
-fn reply_turn(
+// The operation once it is given what a read brought, or as it is where the read was refused.
+fn given_after(
     operation: UsbOperation,
-    device: MockState,
-    flash: &[u8],
-    buffer: &mut [u8],
-) -> UsbTurned
-    ensures { λ r. ⌜ ((lent : List ℕ) → TurnMeets r (now (flash .entry)) lent (got asked.Status (usbState operation device (now (flash .entry)) lent) (readBulk device (now (flash .entry)) (now (buffer .entry))))) ⌝ }
+    answer: MockAnswer,
+    bytes: &[u8],
+    room: &mut [u8],
+) -> UsbOperation
+    ensures { λ r. ⌜ r ≡ whereDone (answer .result) (usbGive operation (now (bytes .entry)) (length (now (room .entry))) .next) operation ⌝ }
+    ensures { λ r. ⌜ (now (bytes .entry) ≡ [] → now (room .exit) ≡ now (room .entry)) ⌝ }
 {
-    let read = device.read_bulk(flash, buffer);
-    let answer = read.answer;
-    let state = read.state;
     let result = answer.result;
     let MockResult::Done = result else {
-        return after_transfer(operation, state, answer);
+        return operation;
     };
+    let given = operation.give(bytes, room);
+    given.next
+}
+
+// A status or a reply, read into the run's own buffer.
+fn reply_turn(operation: UsbOperation, device: MockState, flash: &[u8], size: usize) -> UsbTurned
+    requires { ⌜ size ≤ 16 ⌝ }
+    ensures { λ r. ⌜ ((lent : List ℕ) → TurnMeets r (now (flash .entry)) lent (got asked.Status (usbState operation device (now (flash .entry)) lent) (readBulk device (now (flash .entry)) (replicate size 0)))) ⌝ }
+{
+    let mut reply = [0u8; 16];
+    let read = device.read_bulk(flash, &mut reply[..size]);
     let mut none = [0u8; 0];
-    let given = operation.give(buffer, &mut none);
-    goes_on(given.next, state)
+    let next = given_after(operation, read.answer, &reply[..size], &mut none);
+    after_transfer(next, read)
 }
 
 // Sectors into the first bytes of the caller's data, which an empty giving leaves there.
@@ -150,15 +146,9 @@ fn sectors_turn(
     ensures { λ r. ⌜ TurnMeets r (now (flash .entry)) (now (room .exit)) (got asked.Sectors (usbState operation device (now (flash .entry)) (now (room .entry))) (readBulk device (now (flash .entry)) (take size (now (room .entry))))) ⌝ }
 {
     let read = device.read_bulk(flash, &mut room[..size]);
-    let answer = read.answer;
-    let state = read.state;
-    let result = answer.result;
-    let MockResult::Done = result else {
-        return after_transfer(operation, state, answer);
-    };
     let none = [0u8; 0];
-    let given = operation.give(&none, room);
-    goes_on(given.next, state)
+    let next = given_after(operation, read.answer, &none, room);
+    after_transfer(next, read)
 }
 
 // The operation's step, lent the data that its kind has.
@@ -170,6 +160,32 @@ fn step_over(operation: UsbOperation, source: &[u8], room: &[u8], out: &mut [u8]
         return operation.step(source, out);
     }
     operation.step(room, out)
+}
+
+// What the run stops with at a step that asks for no transfer.
+fn stop_at(step: UsbStep) -> Stop
+    ensures { λ r. ⌜ r ≡ stopAt step ⌝ }
+{
+    match step {
+        UsbStep::Finished(finish) => return Stop::Finished(finish),
+        UsbStep::OutputTooShort => return Stop::OutputTooShort,
+        _ => return Stop::DataDiffers,
+    }
+}
+
+fn ended(stepped: UsbStepped, device: MockState) -> UsbTurned
+    ensures { λ r. ⌜ r ≡ endedBy (stopAt (stepped .step)) (stepped .beside) (stepped .next) device ⌝ }
+{
+    let step = stepped.step;
+    let turn = Turn::Ends(stop_at(step));
+    let beside = stepped.beside;
+    let operation = stepped.next;
+    UsbTurned {
+        turn,
+        beside,
+        operation,
+        device,
+    }
 }
 
 // One turn. Sectors are written from `source` and read into `room`: of the two the operation's kind has use for one.
@@ -184,31 +200,13 @@ pub fn take_turn(
 {
     let mut out = [0u8; 31];
     let stepped = step_over(operation, source, room, &mut out);
-    let next = stepped.next;
     let step = stepped.step;
     match step {
-        UsbStep::WriteCommand => write_turn(next, device, flash, &out),
-        UsbStep::WriteData(size) => write_turn(next, device, flash, &source[..size]),
-        UsbStep::ReadInband(size) => {
-            let mut reply = [0u8; 16];
-            reply_turn(next, device, flash, &mut reply[..size])
-        }
-        UsbStep::ReadData(size) => sectors_turn(next, device, flash, room, size),
-        UsbStep::ReadStatus(_) => {
-            let mut status = [0u8; 13];
-            reply_turn(next, device, flash, &mut status)
-        }
-        UsbStep::Finished(finish) => {
-            let beside = stepped.beside;
-            ends_with(Stop::Finished(finish), beside, next, device)
-        }
-        UsbStep::OutputTooShort => {
-            let beside = stepped.beside;
-            ends_with(Stop::OutputTooShort, beside, next, device)
-        }
-        UsbStep::DataDiffers => {
-            let beside = stepped.beside;
-            ends_with(Stop::DataDiffers, beside, next, device)
-        }
+        UsbStep::WriteCommand => return write_turn(stepped.next, device, flash, &out),
+        UsbStep::WriteData(size) => return write_turn(stepped.next, device, flash, &source[..size]),
+        UsbStep::ReadInband(size) => return reply_turn(stepped.next, device, flash, size),
+        UsbStep::ReadData(size) => return sectors_turn(stepped.next, device, flash, room, size),
+        UsbStep::ReadStatus(_) => return reply_turn(stepped.next, device, flash, 13),
+        _ => return ended(stepped, device),
     }
 }

@@ -1,12 +1,11 @@
 -- Each arm of the match is one law: what the step asked for is known, and the transfer's own function did it.
 -- Assumes nothing.
 use Prim.Native.Nat.{ℕ, _≤_}
-use mathlib.Core.Path.{_≡_, sym, subst}
+use mathlib.Core.Path.{_≡_, refl, sym, subst}
 use mathlib.Core.Bool.{Bool, true, false}
-use mathlib.Core.List.{List}
 use borrow.Author.Needs.{needs}
 use denote.Ref.{now}
-use lib.ListN.{length, take, replicate}
+use lib.ListN.{length, take}
 use lib.Seq.{length-take-le}
 use Rattle.wire.specs.Rules.{pick}
 use Rattle.steps.specs.declared.Asked.the-variants as asked
@@ -16,56 +15,55 @@ use Rattle.turns.specs.declared.UsbTurned.{UsbTurned}
 use Rattle.mock.specs.Device.{writeBulk, readBulk}
 use Rattle.turns.specs.Turn.{usbState, isWrite, lentTo, wrote, got, usbTurn}
 use Rattle.turns.specs.Answers.{TurnMeets}
-use Rattle.turns.proofs.Meets.{take-same, within, command-meets, data-meets, inband-meets, sectors-meets, status-meets, finish-meets, short-meets, differs-meets}
+use Rattle.turns.proofs.Meets.{within, command-meets, data-meets, inband-meets, sectors-meets, status-meets, stop-meets}
 use Rattle.turns.proofs.take_turn.Statement.{statement}
 use Rattle.turns.proofs.take_turn.Tie as tie
 
 -- what the step asked for is within what was lent
 write-fits : (k : tie.After-step)
-    → let a = k .before .before .before .before .before .before .before .before .before .before .args in
+    → let a = k .before .before .before .before .before .before .before .before .before .args in
     (isWrite (a .operation .kind) ≡ true) × (k .step .given .0 .0 ≤ length (lentTo (a .operation .kind) (now (a .source)) (now (a .room))))
 unfolding stepTold
 write-fits k =
-    let a = k .before .before .before .before .before .before .before .before .before .before .args in
-    let o = k .before .before .before .before .step-over in
+    let a = k .before .before .before .before .before .before .before .before .before .args in
+    let o = k .before .before .before .step-over in
     within (usbState (a .operation) (a .device) (now (a .flash)) (lentTo (a .operation .kind) (now (a .source)) (now (a .room)))) (o .result) (o .last .1 .1 .1 .0) (o .ensures)
     (step.WriteData (k .step .given .0 .0)) (k .step .given .1)
 
 reply-fits : (k : tie.After-step2) → k .step2 .given .0 .0 ≤ 16
 unfolding stepTold
 reply-fits k =
-    let a = k .before .before .before .before .before .before .before .before .before .before .args in
-    let o = k .before .before .before .before .step-over in
+    let a = k .before .before .before .before .before .before .before .before .before .args in
+    let o = k .before .before .before .step-over in
     within (usbState (a .operation) (a .device) (now (a .flash)) (lentTo (a .operation .kind) (now (a .source)) (now (a .room)))) (o .result) (o .last .1 .1 .1 .0) (o .ensures)
     (step.ReadInband (k .step2 .given .0 .0)) (k .step2 .given .1)
 
 sectors-fit : (k : tie.After-step3)
-    → let a = k .before .before .before .before .before .before .before .before .before .before .args in
+    → let a = k .before .before .before .before .before .before .before .before .before .args in
     (isWrite (a .operation .kind) ≡ false) × (k .step3 .given .0 .0 ≤ length (lentTo (a .operation .kind) (now (a .source)) (now (a .room))))
 unfolding stepTold
 sectors-fit k =
-    let a = k .before .before .before .before .before .before .before .before .before .before .args in
-    let o = k .before .before .before .before .step-over in
+    let a = k .before .before .before .before .before .before .before .before .before .args in
+    let o = k .before .before .before .step-over in
     within (usbState (a .operation) (a .device) (now (a .flash)) (lentTo (a .operation .kind) (now (a .source)) (now (a .room)))) (o .result) (o .last .1 .1 .1 .0) (o .ensures)
     (step.ReadData (k .step3 .given .0 .0)) (k .step3 .given .1)
 
 -- of the two it is the one that the kind has use for
-source-fits : (k : tie.After-step) → k .step .given .0 .0 ≤ length (now (k .before .before .before .before .before .before .before .before .before .before .args .source))
+source-fits : (k : tie.After-step) → k .step .given .0 .0 ≤ length (now (k .before .before .before .before .before .before .before .before .before .args .source))
 source-fits k =
-    let a = k .before .before .before .before .before .before .before .before .before .before .args in
+    let a = k .before .before .before .before .before .before .before .before .before .args in
     subst (λ (b : Bool). k .step .given .0 .0 ≤ length (pick b (now (a .source)) (now (a .room)))) (write-fits k .0) (write-fits k .1)
 
-room-fits : (k : tie.After-step3) → k .step3 .given .0 .0 ≤ length (now (k .before .before .before .before .before .before .before .before .before .before .args .room))
+room-fits : (k : tie.After-step3) → k .step3 .given .0 .0 ≤ length (now (k .before .before .before .before .before .before .before .before .before .args .room))
 room-fits k =
-    let a = k .before .before .before .before .before .before .before .before .before .before .args in
+    let a = k .before .before .before .before .before .before .before .before .before .args in
     subst (λ (b : Bool). k .step3 .given .0 .0 ≤ length (pick b (now (a .source)) (now (a .room)))) (sectors-fit k .0) (sectors-fit k .1)
 
 returns : tie.Need-returns
 returns c =
-    let n = c .before .before .before .before .before .before .before in
-    let a = n .before .before .before .before .before .before .before .before .args in
+    let a = c .before .before .before .before .before .before .before .before .before .before .before .before .before .before .args in
     let t = c .before .before .write-turn in
-    let o = n .before .before .step-over in
+    let o = c .before .before .before .before .before .before .before .before .step-over in
     let lent = lentTo (a .operation .kind) (now (a .source)) (now (a .room)) in
     command-meets (usbState (a .operation) (a .device) (now (a .flash)) lent) (o .result) (o .last .1 .1 .1 .0) (o .ensures) (t .result) (t .last .1 .1 .0) lent
     (c .before .before .before .before .before .enum-told .given .1) (t .ensures lent)
@@ -73,9 +71,8 @@ returns c =
 returns-2 : tie.Need-returns-2
 returns-2 c =
     let k = c .before .before .before .before .before .before in
-    let n = k .before .before in
-    let a = n .before .before .before .before .before .before .before .before .args in
-    let o = n .before .before .step-over in
+    let a = k .before .before .before .before .before .before .before .before .before .args in
+    let o = k .before .before .before .step-over in
     let t = c .before .before .write-turn2 in
     let size = k .step .given .0 .0 in
     let lent = lentTo (a .operation .kind) (now (a .source)) (now (a .room)) in
@@ -87,25 +84,18 @@ returns-2 c =
 
 returns-3 : tie.Need-returns-3
 returns-3 c =
-    let k = c .before .before .before .before .before in
-    let n = k .before .before in
-    let a = n .before .before .before .before .before .before .before .before .args in
-    let o = n .before .before .step-over in
-    let t = c .before .reply-turn in
-    let size = k .step2 .given .0 .0 in
+    let k = c .before .before .before in
+    let a = k .before .before .before .before .before .before .before .before .before .args in
+    let o = k .before .before .before .step-over in
     let lent = lentTo (a .operation .kind) (now (a .source)) (now (a .room)) in
-    let s = usbState (a .operation) (a .device) (now (a .flash)) lent in
-    inband-meets s (o .result) (o .last .1 .1 .1 .0) (o .ensures) (t .result) (now (a .flash)) lent size (k .step2 .given .1)
-    (subst
-    (λ (l : List ℕ). TurnMeets (t .result) (now (a .flash)) lent (got asked.Status (usbState (o .result .next) (a .device) (now (a .flash)) lent) (readBulk (a .device) (now (a .flash)) l)))
-    (take-same size 16 0 (reply-fits k)) (t .ensures lent))
+    inband-meets (usbState (a .operation) (a .device) (now (a .flash)) lent) (o .result) (o .last .1 .1 .1 .0) (o .ensures) (c .reply-turn .result) (now (a .flash)) lent
+    (k .step2 .given .0 .0) (k .step2 .given .1) (c .reply-turn .ensures lent)
 
 returns-4 : tie.Need-returns-4
 returns-4 c =
     let k = c .before .before .before .before .before .before in
-    let n = k .before .before in
-    let a = n .before .before .before .before .before .before .before .before .args in
-    let o = n .before .before .step-over in
+    let a = k .before .before .before .before .before .before .before .before .before .args in
+    let o = k .before .before .before .step-over in
     let t = c .before .before .sectors-turn in
     let size = k .step3 .given .0 .0 in
     let lent = lentTo (a .operation .kind) (now (a .source)) (now (a .room)) in
@@ -117,44 +107,21 @@ returns-4 c =
 
 returns-5 : tie.Need-returns-5
 returns-5 c =
-    let n = c .before .before .before .before .before .before in
-    let a = n .before .before .before .before .before .before .before .before .args in
-    let o = n .before .before .step-over in
-    let t = c .before .reply-turn2 in
+    let a = c .before .before .before .before .before .before .before .before .before .before .before .args in
+    let o = c .before .before .before .before .before .step-over in
+    let e = c .before .before .enum-told2 .given in
     let lent = lentTo (a .operation .kind) (now (a .source)) (now (a .room)) in
-    let s = usbState (a .operation) (a .device) (now (a .flash)) lent in
-    status-meets s (o .result) (o .last .1 .1 .1 .0) (o .ensures) (t .result) (now (a .flash)) lent (c .before .before .before .before .enum-told2 .given .0 .0) (c .before .before .before .before .enum-told2 .given .1)
-    (t .ensures lent)
+    status-meets (usbState (a .operation) (a .device) (now (a .flash)) lent) (o .result) (o .last .1 .1 .1 .0) (o .ensures) (c .reply-turn2 .result) (now (a .flash)) lent
+    (e .0 .0) (e .1) (c .reply-turn2 .ensures lent)
 
 returns-6 : tie.Need-returns-6
 returns-6 c =
-    let n = c .before .before .before .before .before in
-    let a = n .before .before .before .before .before .before .before .before .args in
-    let o = n .before .before .step-over in
+    let a = c .before .before .before .before .before .before .before .before .before .args in
+    let o = c .before .before .before .step-over in
     let lent = lentTo (a .operation .kind) (now (a .source)) (now (a .room)) in
     let s = usbState (a .operation) (a .device) (now (a .flash)) lent in
-    subst (λ (r : UsbTurned). TurnMeets r (now (a .flash)) lent (usbTurn s)) (sym (c .ends-with .ensures))
-    (finish-meets s (o .result) (o .last .1 .1 .1 .0) (o .ensures) (c .before .before .before .step4 .given .0 .0) (c .before .before .before .step4 .given .1))
-
-returns-7 : tie.Need-returns-7
-returns-7 c =
-    let n = c .before .before .before .before in
-    let a = n .before .before .before .before .before .before .before .before .args in
-    let o = n .before .before .step-over in
-    let lent = lentTo (a .operation .kind) (now (a .source)) (now (a .room)) in
-    let s = usbState (a .operation) (a .device) (now (a .flash)) lent in
-    subst (λ (r : UsbTurned). TurnMeets r (now (a .flash)) lent (usbTurn s)) (sym (c .ends-with2 .ensures))
-    (short-meets s (o .result) (o .last .1 .1 .1 .0) (o .ensures) (c .before .before .enum-told3 .given .1))
-
-returns-8 : tie.Need-returns-8
-returns-8 c =
-    let n = c .before .before .before .before in
-    let a = n .before .before .before .before .before .before .before .before .args in
-    let o = n .before .before .step-over in
-    let lent = lentTo (a .operation .kind) (now (a .source)) (now (a .room)) in
-    let s = usbState (a .operation) (a .device) (now (a .flash)) lent in
-    subst (λ (r : UsbTurned). TurnMeets r (now (a .flash)) lent (usbTurn s)) (sym (c .ends-with3 .ensures))
-    (differs-meets s (o .result) (o .last .1 .1 .1 .0) (o .ensures) (c .before .before .enum-told4 .given .1))
+    subst (λ (r : UsbTurned). TurnMeets r (now (a .flash)) lent (usbTurn s)) (sym (c .ended .ensures))
+    (stop-meets s (o .result) (o .last .1 .1 .1 .0) (o .ensures) (o .result .step) refl (c .before .match .keys6))
 
 pub take-turn-spec : {M : Type 1} → statement M
 take-turn-spec =
@@ -166,41 +133,29 @@ take-turn-spec =
     (λ c. search needs)
     (λ c κs. search needs)
     (λ c. search needs)
-    (λ c. sym (length-take-le (c .before .before .before .step .given .0 .0) (now (c .before .before .before .before .before .before .before .before .before .before .before .before .before .args .source)) (source-fits (c .before .before .before))))
-    (λ c κs. search needs)
-    (λ c. search needs)
-    (λ c. reply-fits (c .before .before))
-    (λ c. sym (length-take-le (c .before .before .before .step2 .given .0 .0) (replicate 16 0) (reply-fits (c .before .before .before))))
-    (λ c κs. search needs)
-    (λ c. search needs)
-    (λ c κs. room-fits (c .before .before .before))
-    (λ c. search needs)
-    (λ c. search needs)
-    (λ c κs. search needs)
-    (λ c. search needs)
-    (λ c κs. search needs)
-    (λ c. search needs)
-    (λ c κs. search needs)
-    (λ c. search needs)
-    (λ c κs. search needs)
-    (λ c. search needs)
     (λ c. search needs)
     returns
+    (λ c. search needs)
+    (λ c. sym (length-take-le (c .before .before .before .step .given .0 .0) (now (c .before .before .before .before .before .before .before .before .before .before .before .before .args .source)) (source-fits (c .before .before .before))))
+    (λ c κs. search needs)
     (λ c. search needs)
     (λ c. search needs)
     returns-2
     (λ c. search needs)
+    (λ c κs. reply-fits (c .before .before))
+    (λ c. search needs)
     (λ c. search needs)
     returns-3
+    (λ c. search needs)
+    (λ c κs. room-fits (c .before .before .before))
     (λ c. search needs)
     (λ c. search needs)
     returns-4
     (λ c. search needs)
+    (λ c κs. search needs)
+    (λ c. search needs)
     (λ c. search needs)
     returns-5
+    (λ c κs. search needs)
     (λ c. search needs)
-    returns-6
-    (λ c. search needs)
-    returns-7
-    (λ c. search needs)
-    returns-8)
+    returns-6)

@@ -10,8 +10,8 @@ use Rattle.turns.proofs.write_turn.Tie as tie
 returns : tie.Need-returns
 returns c =
     λ lent.
-    let a = c .before .before .before .before .before .before .before .before .before .args in
-    let b = c .before .before .before .before .before .write-bulk in
+    let a = c .before .before .before .before .before .before .before .args in
+    let b = c .before .before .before .write-bulk in
     let w = writeBulk (a .device) (now (a .flash)) (now (a .bytes)) in
     written (c .after-transfer .result) (a .operation) w (b .result .state) (b .last .1 .0) lent (b .ensures .next) (b .ensures .leaves)
     (c .after-transfer .ensures (w .told) (b .last .1 .0) lent (b .ensures .tells))

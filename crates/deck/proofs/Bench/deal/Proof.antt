@@ -5,7 +5,7 @@ use mathlib.Core.Path.{subst}
 use borrow.Author.Needs.{needs}
 use denote.Ref.{now}
 use Rattle.verdict.specs.Deal.{head, DealMeets}
-use Rattle.deck.specs.Dealing.{dealBlock}
+use Rattle.dealing.specs.Dealing.{dealBlock}
 use Rattle.deck.proofs.Bench.deal.Statement.{statement}
 use Rattle.deck.proofs.Bench.deal.Tie as tie
 

@@ -7,9 +7,9 @@ use borrow.Author.Needs.{needs}
 use lib.ListN.{length, take}
 use Rattle.maskrom.specs.Answers.{longest}
 use Rattle.landing.proofs.Loads.{starts-fresh}
-use Rattle.deck.proofs.Laws.{take-filled, as-long, as-loaded}
-use Rattle.deck.proofs.upload_filled.Statement.{statement}
-use Rattle.deck.proofs.upload_filled.Tie as tie
+use Rattle.dealing.proofs.Laws.{take-filled, as-long, as-loaded}
+use Rattle.dealing.proofs.upload_filled.Statement.{statement}
+use Rattle.dealing.proofs.upload_filled.Tie as tie
 
 long : tie.Need-slice-aggregate-start-upload
 long c =

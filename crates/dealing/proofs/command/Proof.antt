@@ -3,9 +3,9 @@
 use borrow.Author.Needs.{needs}
 use denote.Ref.{now}
 use Rattle.verdict.proofs.Laws.{operated-deal}
-use Rattle.deck.specs.Dealing.{operate}
-use Rattle.deck.proofs.command.Statement.{statement}
-use Rattle.deck.proofs.command.Tie as tie
+use Rattle.dealing.specs.Dealing.{operate}
+use Rattle.dealing.proofs.command.Statement.{statement}
+use Rattle.dealing.proofs.command.Tie as tie
 
 returns : tie.Need-returns
 unfolding operate

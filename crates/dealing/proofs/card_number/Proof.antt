@@ -5,8 +5,8 @@ use borrow.Author.Needs.{needs}
 use Rattle.wire.specs.Told.{number}
 use Rattle.card.specs.declared.CardAnswer.{CardAnswer}
 use Rattle.card.specs.Reading.{cardTold}
-use Rattle.deck.proofs.card_number.Statement.{statement}
-use Rattle.deck.proofs.card_number.Tie as tie
+use Rattle.dealing.proofs.card_number.Statement.{statement}
+use Rattle.dealing.proofs.card_number.Tie as tie
 
 pub card-number-spec : {M : Type 1} → statement M
 unfolding number cardTold

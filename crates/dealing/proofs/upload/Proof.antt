@@ -3,9 +3,9 @@
 use borrow.Author.Needs.{needs}
 use denote.Ref.{now}
 use Rattle.verdict.proofs.Laws.{loaded-deal}
-use Rattle.deck.specs.Dealing.{loadOf}
-use Rattle.deck.proofs.upload.Statement.{statement}
-use Rattle.deck.proofs.upload.Tie as tie
+use Rattle.dealing.specs.Dealing.{loadOf}
+use Rattle.dealing.proofs.upload.Statement.{statement}
+use Rattle.dealing.proofs.upload.Tie as tie
 
 returns : tie.Need-returns
 unfolding loadOf

@@ -6,8 +6,8 @@ use borrow.Author.Needs.{needs}
 use denote.Ref.{now}
 use Rattle.transfer.specs.Does.{after}
 use Rattle.maskrom.specs.Whole.{freshWhole, startStep}
-use Rattle.deck.proofs.start_upload.Statement.{statement}
-use Rattle.deck.proofs.start_upload.Tie as tie
+use Rattle.dealing.proofs.start_upload.Statement.{statement}
+use Rattle.dealing.proofs.start_upload.Tie as tie
 
 returns : tie.Need-returns
 returns c =

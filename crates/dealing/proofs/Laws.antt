@@ -23,14 +23,16 @@ use Rattle.maskrom.specs.Whole.{freshWhole}
 use Rattle.turns.specs.Turn.{isWrite, lentTo}
 use Rattle.mock.specs.declared.device.MockState.{MockState}
 use Rattle.card.specs.declared.Request.{Request}
+use Rattle.card.specs.declared.Request.the-variants as request
 use Rattle.card.specs.declared.CardAnswer.{CardAnswer}
 use Rattle.card.specs.declared.CardAnswer.the-variants as answer
 use Rattle.card.proofs.CardAnswer.{the-type}
+use Rattle.card.proofs.Request as requests
 use Rattle.card.specs.Reading.{cardTold, readCard}
 use Rattle.verdict.specs.declared.Dealt.{Dealt}
 use Rattle.verdict.specs.Deal.{Head, head, away, turnedAway, DealMeets}
 use Rattle.verdict.proofs.Laws.{away-deal}
-use Rattle.deck.specs.Dealing.{room, operate, loadOf, load, carryOut, dealAsked, dealBlock}
+use Rattle.dealing.specs.Dealing.{room, operate, loadOf, load, plainStart, carryOut, dealAsked, dealBlock}
 
 -- the first n bytes of the room
 pub take-filled : (n fill : ℕ) (l : List ℕ) → l ≡ replicate room fill → n ≤ room → take n l ≡ replicate n fill
@@ -72,11 +74,29 @@ pub as-request : (r : Dealt) (flash store : List ℕ) (tag : ℕ) (asked asked�
 as-request r flash store tag asked asked′ h e m =
     subst (λ (q : Request). DealMeets r flash store (carryOut tag q h)) (sym e) m
 
--- an operation that is lent no data
-pub plain : (r : Dealt) (flash store : List ℕ) (tag : ℕ) (asked asked′ : Request) (op op′ : UsbOperation) (h : Head) → asked ≡ asked′ → op ≡ op′
-    → carryOut tag asked′ h ≡ operate op′ [] h → DealMeets r flash store (operate op [] h) → DealMeets r flash store (carryOut tag asked h)
-plain r flash store tag asked asked′ op op′ h e f g m =
-    as-request r flash store tag asked asked′ h e (subst (DealMeets r flash store) (sym g) (as-asked r flash store op op′ [] [] h f refl m))
+-- a request that brings no data is the operation that it starts
+plain-carried : (tag : ℕ) (asked : Request) (h : Head) → OneOf (0 ∷ 1 ∷ 2 ∷ 3 ∷ 4 ∷ 5 ∷ 8 ∷ 9 ∷ 10 ∷ []) (tagOf requests.the-type asked)
+    → operate (plainStart tag asked) [] h ≡ carryOut tag asked h
+unfolding plainStart carryOut
+plain-carried tag request.ChipInfo h k = refl
+plain-carried tag request.FlashId h k = refl
+plain-carried tag request.FlashInfo h k = refl
+plain-carried tag request.Capability h k = refl
+plain-carried tag (request.EraseLba first count) h k = refl
+plain-carried tag (request.EraseForce first count) h k = refl
+plain-carried tag (request.ReadLba first count) h k = absurd (miss (0 ∷ 1 ∷ 2 ∷ 3 ∷ 4 ∷ 5 ∷ 8 ∷ 9 ∷ 10 ∷ []) 6 tt k)
+plain-carried tag (request.WriteLba first count fill) h k = absurd (miss (0 ∷ 1 ∷ 2 ∷ 3 ∷ 4 ∷ 5 ∷ 8 ∷ 9 ∷ 10 ∷ []) 7 tt k)
+plain-carried tag (request.ResetDevice opcode) h k = refl
+plain-carried tag request.Storage h k = refl
+plain-carried tag (request.SwitchStorage index) h k = refl
+plain-carried tag (request.WriteArea area n fill) h k = absurd (miss (0 ∷ 1 ∷ 2 ∷ 3 ∷ 4 ∷ 5 ∷ 8 ∷ 9 ∷ 10 ∷ []) 11 tt k)
+plain-carried tag (request.WriteAreaNoCrc area n fill) h k = absurd (miss (0 ∷ 1 ∷ 2 ∷ 3 ∷ 4 ∷ 5 ∷ 8 ∷ 9 ∷ 10 ∷ []) 12 tt k)
+
+pub plain : (r : Dealt) (flash store : List ℕ) (tag : ℕ) (asked : Request) (op : UsbOperation) (h : Head)
+    → OneOf (0 ∷ 1 ∷ 2 ∷ 3 ∷ 4 ∷ 5 ∷ 8 ∷ 9 ∷ 10 ∷ []) (tagOf requests.the-type asked) → op ≡ plainStart tag asked
+    → DealMeets r flash store (operate op [] h) → DealMeets r flash store (carryOut tag asked h)
+plain r flash store tag asked op h k e m =
+    subst (DealMeets r flash store) (ap (λ (o : UsbOperation). operate o [] h) e ∙ plain-carried tag asked h k) m
 
 -- by what the block was read as
 pub as-dealt : (r : Dealt) (flash store : List ℕ) (tag : ℕ) (block : List ℕ) (card : CardAnswer) (h : Head) → cardTold card ≡ readCard tag block

@@ -9,10 +9,10 @@ use Rattle.protocol.specs.Commands.{readLbaCommand}
 use Rattle.finish.specs.declared.Kind.the-variants as kind
 use Rattle.steps.specs.Record.{fresh}
 use Rattle.verdict.proofs.Laws.{operated-deal}
-use Rattle.deck.specs.Dealing.{room, operate}
-use Rattle.deck.proofs.Laws.{take-filled, as-long, sectors-exact, as-asked}
-use Rattle.deck.proofs.read_sectors.Statement.{statement}
-use Rattle.deck.proofs.read_sectors.Tie as tie
+use Rattle.dealing.specs.Dealing.{room, operate}
+use Rattle.dealing.proofs.Laws.{take-filled, as-long, sectors-exact, as-asked}
+use Rattle.dealing.proofs.read_sectors.Statement.{statement}
+use Rattle.dealing.proofs.read_sectors.Tie as tie
 
 bound : (s : tie.Start) → s .args .count * 512 ≤ room
 bound s = let few = s .pre in omega arith

@@ -11,10 +11,10 @@ use Rattle.card.specs.Reading.{cardTold}
 use Rattle.card.proofs.ByKind.{passed-rules}
 use Rattle.card.proofs.Fitting.{asked-fits}
 use Rattle.verdict.specs.Deal.{head, DealMeets}
-use Rattle.deck.specs.Dealing.{dealAsked, dealBlock}
-use Rattle.deck.proofs.Laws.{as-dealt, refused-card, asked-card}
-use Rattle.deck.proofs.deal_block.Statement.{statement}
-use Rattle.deck.proofs.deal_block.Tie as tie
+use Rattle.dealing.specs.Dealing.{dealAsked, dealBlock}
+use Rattle.dealing.proofs.Laws.{as-dealt, refused-card, asked-card}
+use Rattle.dealing.proofs.deal_block.Statement.{statement}
+use Rattle.dealing.proofs.deal_block.Tie as tie
 
 returns : tie.Need-returns
 returns c =
