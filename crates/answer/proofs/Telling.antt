@@ -1,14 +1,17 @@
 -- The answers that the code makes tell what they should.
 -- Assumes nothing.
 use mathlib.Core.Path.{_≡_, refl, ap, sym, _∙_}
-use Rattle.wire.specs.Told.{Told, given}
+use Rattle.wire.specs.Told.{Told, given, andThen}
 use Rattle.block.specs.Signature.{noSignature, signatureIn}
 use Rattle.protocol.specs.CommandMeets.{commandErrorNumber, commandErrorValues}
 use Rattle.protocol.specs.declared.CommandBlockParseError.the-variants.{InvalidSignature, UnknownCommandCode, UnknownFlags, InvalidLength}
 use Rattle.answer.specs.Told.{errorTold, errorValues, resultTold, innerSignature, signatureBeside, Answers}
+use Rattle.answer.specs.Flash.{sizeTold, sizeResult, sizeAnswer}
 use Rattle.answer.specs.declared.error.MockTransportError.{MockTransportError}
 use Rattle.answer.specs.declared.error.MockTransportError.the-variants.{InvalidTransferLength, UnsupportedControl, InvalidReset, UnknownCommand, UnexpectedRead, UnexpectedWrite, CommandBlockError, OutOfRange, NoSlot, SlotFull, FlashSize, TooManySectors, StoreLength}
 use Rattle.answer.specs.declared.error.MockResult.the-variants.{Done, Refused}
+use Rattle.answer.specs.declared.range.FlashSectors.{FlashSectors}
+use Rattle.answer.specs.declared.range.FlashSectors.the-variants as size
 
 -- beside zeros no refusal tells a signature but zeros
 beside-error : (error : MockTransportError) → signatureBeside (errorTold error noSignature) ≡ noSignature
@@ -38,3 +41,9 @@ answers-error error told e = record { tells = e; signature = sym (beside-error e
 pub answers-done : Answers (record { result = Done; signature = noSignature }) (given tt)
 unfolding resultTold signatureBeside
 answers-done = record { tells = refl; signature = refl }
+
+-- the answer to a length tells what the length does
+pub size-answers : (size : FlashSectors) → Answers (sizeAnswer size) (andThen (sizeTold size) (λ sectors. given tt))
+unfolding sizeTold sizeResult andThen
+size-answers (size.Whole sectors) = answers-done
+size-answers (size.Refused error) = answers-error error (errorTold error noSignature) refl

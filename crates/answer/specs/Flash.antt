@@ -9,6 +9,9 @@ use Rattle.wire.specs.Rules.{Rule, rule, pick, unless}
 use Rattle.block.specs.Sector.{sectorSize}
 use Rattle.answer.specs.Told.{errorTold}
 use Rattle.block.specs.Signature.{noSignature}
+use Rattle.answer.specs.declared.error.MockAnswer.{MockAnswer}
+use Rattle.answer.specs.declared.error.MockResult.{MockResult}
+use Rattle.answer.specs.declared.error.MockResult.the-variants as result
 use Rattle.answer.specs.declared.range.FlashSectors.{FlashSectors}
 use Rattle.answer.specs.declared.range.FlashSectors.the-variants.{Whole, Refused}
 use Rattle.answer.specs.declared.range.RangeAnswer.{RangeAnswer}
@@ -28,6 +31,14 @@ flashSectors n = unless (flashRules n) (given (n / sectorSize))
 unfoldable pub sizeTold : FlashSectors → Told ℕ
 sizeTold (Whole sectors) = given sectors
 sizeTold (Refused error) = errorTold error noSignature
+
+-- the answer to a flash's length, as the code makes it
+unfoldable pub sizeResult : FlashSectors → MockResult
+sizeResult (Whole sectors) = result.Done
+sizeResult (Refused error) = result.Refused error
+
+abbrev pub sizeAnswer : FlashSectors → MockAnswer
+sizeAnswer size = record { result = sizeResult size; signature = noSignature }
 
 -- a range fits exactly if address plus count is at most the flash's sectors
 unfoldable pub fitsIn : ℕ → ℕ → ℕ → Bool

@@ -1,8 +1,10 @@
 // A lent flash in sectors: its own size, and the ranges that lie in it.
+use super::error::MockAnswer;
+use super::error::MockResult;
 use super::error::MockTransportError;
 use block::SECTOR_SIZE;
 ghost use mathlib.Core.Path.{_≡_};
-ghost use Rattle.answer.specs.Flash.{flashSectors, sizeTold, rangeIn};
+ghost use Rattle.answer.specs.Flash.{flashSectors, sizeTold, sizeAnswer, rangeIn};
 
 const MOST_SECTORS: usize = 65536;
 
@@ -34,6 +36,22 @@ pub fn flash_sectors(length: usize) -> FlashSectors
         return FlashSectors::Refused(MockTransportError::TooManySectors);
     }
     FlashSectors::Whole(length / size)
+}
+
+// Done, or 60 or 61.
+pub fn size_answer(size: FlashSectors) -> MockAnswer
+    ensures { λ r. ⌜ r ≡ sizeAnswer size ⌝ }
+{
+    match size {
+        FlashSectors::Whole(_) => MockAnswer {
+            result: MockResult::Done,
+            signature: [0, 0, 0, 0],
+        },
+        FlashSectors::Refused(error) => MockAnswer {
+            result: MockResult::Refused(error),
+            signature: [0, 0, 0, 0],
+        },
+    }
 }
 
 pub fn flash_range(sectors: usize, start_sector: u32, count: u16) -> RangeAnswer

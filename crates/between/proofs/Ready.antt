@@ -12,9 +12,9 @@ use Rattle.protocol.specs.Commands.{chipInfoCommand, flashIdCommand, flashInfoC
 use Rattle.finish.specs.declared.Kind.the-variants as kind
 use Rattle.steps.specs.declared.UsbOperation.{UsbOperation}
 use Rattle.steps.specs.Record.{fresh}
-use Rattle.mock.specs.declared.config.MockDeviceConfig.{MockDeviceConfig}
+use Rattle.identity.specs.declared.MockDeviceConfig.{MockDeviceConfig}
 use Rattle.mock.specs.declared.device.MockState.{MockState}
-use Rattle.mock.specs.Config.{defaultConfig}
+use Rattle.identity.specs.Config.{defaultConfig}
 use Rattle.mock.specs.Device.{freshState}
 use Rattle.turns.specs.Turn.{usbState}
 use Rattle.loading.specs.Load.{wholeBudget}

@@ -13,7 +13,7 @@ use Rattle.finish.specs.Reply.{Reply}
 use Rattle.steps.specs.declared.UsbOperation.{UsbOperation}
 use Rattle.steps.specs.Record.{fresh}
 use Rattle.mock.specs.declared.device.MockState.{MockState}
-use Rattle.mock.specs.Config.{defaultConfig}
+use Rattle.identity.specs.Config.{defaultConfig}
 use Rattle.mock.specs.Device.{freshState}
 use Rattle.budget.specs.Run.{endTold, Ran}
 use Rattle.turns.specs.Turn.{UsbState, usbState}

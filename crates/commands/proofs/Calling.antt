@@ -36,10 +36,10 @@ use Rattle.answer.specs.declared.error.MockAnswer.{MockAnswer}
 use Rattle.answer.proofs.error.MockAnswer as N
 use Rattle.transaction.specs.declared.session.Session.{Session}
 use Rattle.transaction.proofs.session.Session as T
-use Rattle.mock.specs.Steps.{Step, writeStep, readStep}
-use Rattle.mock.specs.declared.config.MockDeviceConfig.{MockDeviceConfig}
-use Rattle.mock.proofs.config.MockDeviceConfig as D
-use Rattle.mock.proofs.config.MockDeviceConfig.Laws as D′
+use Rattle.effects.specs.Steps.{Step, writeStep, readStep}
+use Rattle.identity.specs.declared.MockDeviceConfig.{MockDeviceConfig}
+use Rattle.identity.proofs.MockDeviceConfig as D
+use Rattle.identity.proofs.MockDeviceConfig.Laws as D′
 use Rattle.session.specs.Lent.{CallMeets}
 use Rattle.commands.proofs.Lending.{Known, Cell, record-at, LentRecord, lends-record, record-back, slice-at, LentAgain, lends-again, comes-back, SharedAgain, shares-again, unshared}
 use Rattle.session.proofs.bulk.write_bulk as write

@@ -9,8 +9,8 @@ use denote.Struct.Laws as LL
 use Rattle.answer.specs.declared.error.MockAnswer.{MockAnswer}
 use Rattle.answer.proofs.error.MockAnswer as N
 use Rattle.transaction.specs.declared.session.Session.{Session}
-use Rattle.mock.specs.Steps.{writeStep, readStep}
-use Rattle.mock.specs.declared.config.MockDeviceConfig.{MockDeviceConfig}
+use Rattle.effects.specs.Steps.{writeStep, readStep}
+use Rattle.identity.specs.declared.MockDeviceConfig.{MockDeviceConfig}
 use Rattle.session.specs.Lent.{CallMeets}
 use Rattle.session.specs.Calls.{write, read, callsBy, CallsMeet}
 use Rattle.session.specs.Sequence.{Made, Lent, Run, lastSession, lastFlash}

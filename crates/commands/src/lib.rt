@@ -1,7 +1,7 @@
 // A whole command for whoever has slices and the record by value: the record stands in a local and is lent to one thin call after another. Each call is made
 // whatever the one before answered; what it then comes to is the table's to say.
 use answer::error::MockAnswer;
-use mock::config::MockDeviceConfig;
+use identity::MockDeviceConfig;
 use session::bulk::read_bulk;
 use session::bulk::write_bulk;
 use transaction::session::Session;

@@ -4,7 +4,7 @@ use Prim.Native.Nat.{ℕ, _+_, _%_, _^_}
 use mathlib.Core.Path.{_≡_}
 use mathlib.Core.List.{List}
 use Rattle.mock.specs.declared.device.MockState.{MockState}
-use Rattle.mock.specs.Config.{defaultConfig}
+use Rattle.identity.specs.Config.{defaultConfig}
 use Rattle.mock.specs.Device.{freshState}
 use Rattle.verdict.specs.Verdict.{verdictTold, besideDealt}
 use Rattle.verdict.specs.Deal.{Deal, head}

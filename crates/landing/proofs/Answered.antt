@@ -31,7 +31,7 @@ use Rattle.transaction.specs.Table.{statusTurn, readRow}
 use Rattle.transaction.specs.declared.session.CommandState.the-variants.{None, Status}
 use Rattle.transaction.specs.declared.outcome.Effect.the-variants as effect
 use Rattle.transaction.specs.declared.outcome.ReplyKind.the-variants as reply
-use Rattle.mock.specs.Effects.{replyBytes, bufferAfter}
+use Rattle.effects.specs.Effects.{replyBytes, bufferAfter}
 use Rattle.mock.specs.Device.{Call, withSession, readBulk}
 use Rattle.budget.specs.Run.{ends, goes, tells, follow, runs}
 use Rattle.turns.specs.Turn.{UsbState, usbState, bufferFor, landed, gives, received, got, transfers, after, usbTurn}

@@ -23,10 +23,10 @@ use Rattle.transaction.specs.declared.session.CommandState.the-variants.{None, 
 use Rattle.transaction.specs.declared.session.LastReset.{LastReset}
 use Rattle.transaction.specs.declared.outcome.Effect.{Effect}
 use Rattle.transaction.specs.declared.outcome.Effect.the-variants.{Nothing}
-use Rattle.mock.specs.Effects.{flashAfter}
+use Rattle.effects.specs.Effects.{flashAfter}
 use Rattle.mock.specs.declared.device.MockState.{MockState}
 use Rattle.mock.specs.Device.{Call, sessionOf, withSession, writeBulk}
-use Rattle.mock.proofs.Frames.{write-long}
+use Rattle.effects.proofs.Frames.{write-long}
 use Rattle.budget.specs.Run.{tells, Ran, follow, runs}
 use Rattle.turns.specs.Turn.{UsbState, usbState, onward, wrote, transfers, usbTurn}
 use Rattle.runner.specs.Run.{sectorData, usbRun, wholeBudget}

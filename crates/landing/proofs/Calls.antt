@@ -9,8 +9,8 @@ use Rattle.answer.specs.Flash.{flashSectors}
 use Rattle.transaction.specs.Turn.{Turn}
 use Rattle.transaction.specs.Table.{writeRow, readRow}
 use Rattle.transaction.specs.declared.session.CommandState.{CommandState}
-use Rattle.mock.specs.Effects.{flashAfter, bufferAfter}
-use Rattle.mock.specs.Steps.{writeStepOf, writeStep, readStepOf, readStep}
+use Rattle.effects.specs.Effects.{flashAfter, bufferAfter}
+use Rattle.effects.specs.Steps.{writeStepOf, writeStep, readStepOf, readStep}
 use Rattle.mock.specs.declared.device.MockState.{MockState}
 use Rattle.mock.specs.Device.{Call, sessionOf, withSession, bulk, writeBulk, readBulk}
 

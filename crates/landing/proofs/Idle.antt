@@ -32,7 +32,7 @@ use Rattle.transaction.specs.declared.session.CommandState.{CommandState}
 use Rattle.transaction.specs.declared.session.CommandState.the-variants.{None, IO, Status}
 use Rattle.mock.specs.declared.device.MockState.{MockState}
 use Rattle.mock.specs.Device.{sessionOf, withSession, writeBulk, readBulk}
-use Rattle.mock.proofs.Frames.{write-long}
+use Rattle.effects.proofs.Frames.{write-long}
 use Rattle.budget.specs.Run.{Turned, ends, goes, outOfSteps, Ran, follow, runs}
 use Rattle.turns.specs.Turn.{UsbState, usbState, onward, wrote, bufferFor, landed, giving, gives, received, got, transfers, after, usbTurn}
 use Rattle.runner.specs.Run.{sectorData, runRules, unstarted, usbRun, wholeBudget}

@@ -34,7 +34,7 @@ use Rattle.transaction.specs.declared.session.CommandState.the-variants.{IO, St
 use Rattle.transaction.specs.declared.outcome.Effect.{Effect}
 use Rattle.transaction.specs.declared.outcome.Effect.the-variants as effect
 use Rattle.transaction.specs.declared.outcome.ReplyKind.{ReplyKind}
-use Rattle.mock.specs.Effects.{flashAfter, bufferAfter, replyBytes}
+use Rattle.effects.specs.Effects.{flashAfter, bufferAfter, replyBytes}
 use Rattle.mock.specs.declared.device.MockState.{MockState}
 use Rattle.mock.specs.Device.{Call, withSession, writeBulk}
 use Rattle.budget.specs.Run.{tells, follow, runs}

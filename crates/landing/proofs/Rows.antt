@@ -42,10 +42,10 @@ use Rattle.transaction.specs.declared.session.LastReset.the-variants as reset
 use Rattle.transaction.specs.declared.outcome.Effect.the-variants as effect
 use Rattle.transaction.specs.declared.outcome.ReplyKind.{ReplyKind}
 use Rattle.transaction.specs.declared.outcome.ReplyKind.the-variants as reply
-use Rattle.mock.specs.Config.{defaultConfig}
-use Rattle.mock.specs.Config as config
-use Rattle.mock.specs.Effects.{replyBytes}
-use Rattle.mock.specs.declared.config.MockDeviceConfig.{MockDeviceConfig}
+use Rattle.identity.specs.Config.{defaultConfig}
+use Rattle.identity.specs.Config as config
+use Rattle.effects.specs.Effects.{replyBytes}
+use Rattle.identity.specs.declared.MockDeviceConfig.{MockDeviceConfig}
 use Rattle.mock.specs.declared.device.MockState.{MockState}
 use Rattle.budget.specs.Run.{tells}
 use Rattle.runner.specs.Run.{sectorData}

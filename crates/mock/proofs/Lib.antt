@@ -1,11 +1,6 @@
--- `Filling` has the laws of a fill that is under way, `Five` an array of five taken apart, `Lengths` what the length of a lent flash tells.
--- For callers: `Frames` has what a bulk call leaves alone, `ReadBack` that what was written is read, `Controls` the areas by their numbers, `Unique` that
--- answers allowed by one contract are equal, `Examples` P13.
-pub mod Filling
-pub mod Five
-pub mod Lengths
-pub mod Frames
-pub mod ReadBack
+-- `Appended` has an append's answer as the device gives it.
+-- For callers: `Keeps` has what a bulk call leaves of the record, `Controls` the areas by their numbers, `Unique` that answers allowed by one contract are equal.
+pub mod Appended
+pub mod Keeps
 pub mod Controls
 pub mod Unique
-pub mod Examples

@@ -5,19 +5,9 @@ use mathlib.Core.List.{List}
 use Prim.Native.Nat.{ℕ}
 use Rattle.answer.specs.declared.error.MockAnswer.{MockAnswer}
 use Rattle.answer.proofs.Unique.{answers-unique}
-use Rattle.transaction.specs.declared.session.Session.{Session}
-use Rattle.mock.specs.Steps.{Step, StepMeets}
 use Rattle.mock.specs.Device.{Call, MockMeets, Creation, CreateMeets}
-use Rattle.mock.specs.declared.steps.SessionStep.{SessionStep}
 use Rattle.mock.specs.declared.device.MockState.{MockState}
 use Rattle.mock.specs.declared.device.MockStep.{MockStep}
-
-pub step-unique : (r s : SessionStep) (after later : List ℕ) (t : Step) → StepMeets r after t → StepMeets s later t → (r ≡ s) × (after ≡ later)
-step-unique r s after later t m n = (
-  ap₂ (λ (a : MockAnswer) (b : Session). record { answer = a; session = b })
-      (answers-unique (r .answer) (s .answer) (t .told) (m .tells) (n .tells)) (m .next ∙ sym (n .next)),
-  m .leaves ∙ sym (n .leaves),
-)
 
 same-step : (r s : MockStep) → r .answer ≡ s .answer → r .state ≡ s .state → r ≡ s
 same-step r s a b = ap₂ (λ (x : MockAnswer) (y : MockState). record { answer = x; state = y }) a b

@@ -26,9 +26,9 @@ use Rattle.answer.specs.declared.error.MockResult.the-variants.{Done, Refused}
 use Rattle.transaction.specs.declared.session.Session.{Session}
 use Rattle.transaction.specs.declared.session.CommandState.the-variants as state
 use Rattle.transaction.specs.declared.session.LastReset.the-variants as reset
-use Rattle.mock.specs.Steps.{Step, writeStep, readStep}
-use Rattle.mock.specs.declared.config.MockDeviceConfig.{MockDeviceConfig}
-use Rattle.mock.specs.declared.steps.SessionStep.{SessionStep}
+use Rattle.effects.specs.Steps.{Step, writeStep, readStep}
+use Rattle.identity.specs.declared.MockDeviceConfig.{MockDeviceConfig}
+use Rattle.effects.specs.declared.SessionStep.{SessionStep}
 use Rattle.mock.specs.declared.device.MockState.{MockState}
 use Rattle.mock.specs.declared.device.MockStep.{MockStep}
 

@@ -1,17 +1,17 @@
 // The device's record, handed in and back by value; its flash and its area store are lent.
-use super::config::MockDeviceConfig;
-use super::sizes::size_answer;
-use super::steps::SessionStep;
-use super::steps::read_step;
-use super::steps::write_step;
 use answer::error::MockAnswer;
 use answer::error::MockResult;
 use answer::error::MockTransportError;
 use answer::range::flash_sectors;
+use answer::range::size_answer;
 use areas::AreaAnswer;
 use areas::AreaFound;
 use areas::AreaStep;
 use areas::Areas;
+use effects::SessionStep;
+use effects::read_step;
+use effects::write_step;
+use identity::MockDeviceConfig;
 use transaction::session::CommandState;
 use transaction::session::LastReset;
 use transaction::session::Session;

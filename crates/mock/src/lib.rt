@@ -1,6 +1,3 @@
-// The stand-in device, after rockusb-mock: what its transaction table answers is applied to a lent flash, a lent buffer and a lent store.
-mod apply;
+// The stand-in device, after rockusb-mock: its record, with a lent flash and a lent area store.
 pub mod config;
 pub mod device;
-mod sizes;
-pub mod steps;

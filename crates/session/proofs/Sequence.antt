@@ -8,7 +8,7 @@ use Rattle.answer.specs.Told.{Answers}
 use Rattle.answer.specs.declared.error.MockAnswer.{MockAnswer}
 use Rattle.answer.proofs.Unique.{answers-unique}
 use Rattle.transaction.specs.declared.session.Session.{Session}
-use Rattle.mock.specs.Steps.{Step, StepMeets}
+use Rattle.effects.specs.Steps.{Step, StepMeets}
 use Rattle.session.specs.Lent.{CallMeets}
 use Rattle.session.specs.Calls.{Call, start, write, read, Came, callBy, callsBy, AllAnswer, CallsMeet}
 use Rattle.session.specs.Sequence.{Made, stepOf, Lent, ByValue, Run, lastSession, lastFlash}

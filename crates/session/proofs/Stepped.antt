@@ -14,9 +14,9 @@ use Rattle.answer.proofs.error.MockAnswer.Laws as N′
 use Rattle.transaction.specs.declared.session.Session.{Session}
 use Rattle.transaction.proofs.session.Session as T
 use Rattle.transaction.proofs.session.Session.Laws as T′
-use Rattle.mock.specs.declared.steps.SessionStep.{SessionStep}
-use Rattle.mock.proofs.steps.SessionStep as Rec
-use Rattle.mock.proofs.steps.SessionStep.Laws as Rec′
+use Rattle.effects.specs.declared.SessionStep.{SessionStep}
+use Rattle.effects.proofs.SessionStep as Rec
+use Rattle.effects.proofs.SessionStep.Laws as Rec′
 
 -- the machine values of a record and of an answer
 abbrev pub val : Session → Val

@@ -7,7 +7,7 @@ use Rattle.wire.specs.Told.{Told}
 use Rattle.answer.specs.declared.error.MockAnswer.{MockAnswer}
 use Rattle.answer.proofs.Unique.{answers-unique}
 use Rattle.transaction.specs.declared.session.Session.{Session}
-use Rattle.mock.specs.Steps.{Step}
+use Rattle.effects.specs.Steps.{Step}
 use Rattle.session.specs.Lent.{CallMeets}
 use Rattle.session.specs.Calls.{Ended, AllAnswer, CallsMeet}
 

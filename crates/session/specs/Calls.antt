@@ -8,8 +8,8 @@ use Rattle.wire.specs.Told.{Told}
 use Rattle.answer.specs.Told.{Answers}
 use Rattle.answer.specs.declared.error.MockAnswer.{MockAnswer}
 use Rattle.transaction.specs.declared.session.Session.{Session}
-use Rattle.mock.specs.Steps.{writeStep, readStep}
-use Rattle.mock.specs.declared.config.MockDeviceConfig.{MockDeviceConfig}
+use Rattle.effects.specs.Steps.{writeStep, readStep}
+use Rattle.identity.specs.declared.MockDeviceConfig.{MockDeviceConfig}
 use Rattle.session.specs.Start.{startStep}
 
 -- a start, a bulk write of these bytes, a bulk read into this buffer

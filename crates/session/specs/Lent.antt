@@ -6,7 +6,7 @@ use mathlib.Core.List.{List}
 use Rattle.answer.specs.Told.{Answers}
 use Rattle.answer.specs.declared.error.MockAnswer.{MockAnswer}
 use Rattle.transaction.specs.declared.session.Session.{Session}
-use Rattle.mock.specs.Steps.{Step}
+use Rattle.effects.specs.Steps.{Step}
 
 -- a call that answers r, with `session` behind the reference afterwards and its bytes left as `after`
 pub record CallMeets (r : MockAnswer) (session : Session) (after : List ℕ) (s : Step) : Type 0 where

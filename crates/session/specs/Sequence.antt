@@ -6,8 +6,8 @@ use mathlib.Core.List.{List, [], _∷_}
 use lib.ListN.{length}
 use Rattle.answer.specs.declared.error.MockAnswer.{MockAnswer}
 use Rattle.transaction.specs.declared.session.Session.{Session}
-use Rattle.mock.specs.Steps.{StepMeets, writeStep, readStep}
-use Rattle.mock.specs.declared.steps.SessionStep.{SessionStep}
+use Rattle.effects.specs.Steps.{StepMeets, writeStep, readStep}
+use Rattle.effects.specs.declared.SessionStep.{SessionStep}
 use Rattle.session.specs.Start.{startStep}
 use Rattle.session.specs.Lent.{CallMeets}
 use Rattle.session.specs.Calls.{Call, start, write, read}

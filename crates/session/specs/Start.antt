@@ -7,7 +7,7 @@ use Rattle.answer.specs.Flash.{flashSectors}
 use Rattle.transaction.specs.declared.session.Session.{Session}
 use Rattle.transaction.specs.declared.session.CommandState.the-variants as state
 use Rattle.transaction.specs.declared.session.LastReset.the-variants as reset
-use Rattle.mock.specs.Steps.{Step, keeps}
+use Rattle.effects.specs.Steps.{Step, keeps}
 
 -- no transaction, no reset
 abbrev pub freshSession : Session

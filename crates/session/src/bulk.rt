@@ -1,14 +1,14 @@
 // The calls over a session that is lent. Each hands a copy of the record to the by-value step, stores what comes back, and returns the answer.
 use super::record::start_step;
 use answer::error::MockAnswer;
-use mock::config::MockDeviceConfig;
-use mock::steps::read_step;
-use mock::steps::write_step;
+use effects::read_step;
+use effects::write_step;
+use identity::MockDeviceConfig;
 use transaction::session::Session;
 ghost use mathlib.Core.Path.{_≡_};
 ghost use mathlib.Core.List.{[]};
 ghost use lib.ListN.{length};
-ghost use Rattle.mock.specs.Steps.{writeStep, readStep};
+ghost use Rattle.effects.specs.Steps.{writeStep, readStep};
 ghost use Rattle.session.specs.Start.{startStep};
 ghost use Rattle.session.specs.Lent.{CallMeets};
 

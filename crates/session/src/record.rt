@@ -3,14 +3,14 @@ use answer::error::MockAnswer;
 use answer::error::MockResult;
 use answer::range::FlashSectors;
 use answer::range::flash_sectors;
-use mock::steps::SessionStep;
+use effects::SessionStep;
 use transaction::session::CommandState;
 use transaction::session::LastReset;
 use transaction::session::Session;
 ghost use mathlib.Core.Path.{_≡_};
 ghost use mathlib.Core.List.{[]};
 ghost use lib.ListN.{length};
-ghost use Rattle.mock.specs.Steps.{StepMeets};
+ghost use Rattle.effects.specs.Steps.{StepMeets};
 ghost use Rattle.session.specs.Start.{freshSession, startStep};
 
 pub fn fresh() -> Session

@@ -36,11 +36,11 @@ use Rattle.transaction.specs.Turn.{Turn, done}
 use Rattle.transaction.specs.declared.outcome.Effect.the-variants.{Nothing}
 use Rattle.transaction.specs.Table.{startTurn, writeRow, writeTurn}
 use Rattle.transaction.specs.declared.session.CommandState.the-variants as state
-use Rattle.mock.specs.Effects.{flashAfter}
-use Rattle.mock.specs.Steps.{writeStepOf, writeStep}
+use Rattle.effects.specs.Effects.{flashAfter}
+use Rattle.effects.specs.Steps.{writeStepOf, writeStep}
 use Rattle.mock.specs.Device.{Call, writeBulk, readBulk, sessionOf}
 use Rattle.mock.specs.declared.device.MockState.{MockState}
-use Rattle.mock.proofs.ReadBack.{stored, supplied}
+use Rattle.effects.proofs.ReadBack.{stored, supplied}
 use Rattle.budget.specs.Run.{Turned, ends, goes, End, tells, outOfSteps, Ran, follow, runs}
 use Rattle.turns.specs.Turn.{UsbState, usbState, onward, bufferFor, landed, gives, received, transfers, after, usbTurn}
 use Rattle.runner.specs.Run.{sectorData, runRules, unstarted, usbRun}

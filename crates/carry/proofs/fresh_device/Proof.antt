@@ -2,7 +2,7 @@
 -- Assumes nothing.
 use mathlib.Core.Path.{ap, _∙_}
 use borrow.Author.Needs.{needs}
-use Rattle.mock.specs.declared.config.MockDeviceConfig.{MockDeviceConfig}
+use Rattle.identity.specs.declared.MockDeviceConfig.{MockDeviceConfig}
 use Rattle.mock.specs.Device.{created, freshState}
 use Rattle.carry.proofs.fresh_device.Statement.{statement}
 use Rattle.carry.proofs.fresh_device.Tie as tie

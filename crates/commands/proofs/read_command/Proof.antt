@@ -41,9 +41,9 @@ use Rattle.answer.proofs.error.MockAnswer.Laws as N′
 use Rattle.transaction.specs.declared.session.Session.{Session}
 use Rattle.transaction.proofs.session.Session as T
 use Rattle.transaction.proofs.session.Session.Laws as T′
-use Rattle.mock.specs.declared.config.MockDeviceConfig.{MockDeviceConfig}
-use Rattle.mock.proofs.config.MockDeviceConfig as D
-use Rattle.mock.proofs.config.MockDeviceConfig.Laws as D′
+use Rattle.identity.specs.declared.MockDeviceConfig.{MockDeviceConfig}
+use Rattle.identity.proofs.MockDeviceConfig as D
+use Rattle.identity.proofs.MockDeviceConfig.Laws as D′
 use Rattle.session.specs.Calls.{write, read, callsBy, CallsMeet}
 use Rattle.commands.proofs.Moved as Rec
 use Rattle.commands.proofs.Moved.Laws as Rec′

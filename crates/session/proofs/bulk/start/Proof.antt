@@ -41,13 +41,13 @@ use denote.Triple.Table.{entered, cited}
 use denote.Triple.Walked.{says, Stays, stay-ref, stay-dropped, walkOf, goes-dropped, goes-ref, Walks, ends-at, walked, walk-meets}
 use denote.Exit.{yes}
 use Rattle.transaction.specs.declared.session.Session.{Session}
-use Rattle.mock.specs.declared.steps.SessionStep.{SessionStep}
-use Rattle.mock.specs.Steps.{StepMeets}
+use Rattle.effects.specs.declared.SessionStep.{SessionStep}
+use Rattle.effects.specs.Steps.{StepMeets}
 use Rattle.session.specs.Start.{startStep}
 use Rattle.transaction.proofs.session.Session as T
 use Rattle.transaction.proofs.session.Session.Laws as T′
-use Rattle.mock.proofs.steps.SessionStep as Rec
-use Rattle.mock.proofs.steps.SessionStep.Laws as Rec′
+use Rattle.effects.proofs.SessionStep as Rec
+use Rattle.effects.proofs.SessionStep.Laws as Rec′
 use Rattle.answer.proofs.error.MockAnswer as N
 use Rattle.answer.proofs.error.MockAnswer.Laws as N′
 use Rattle.session.proofs.record.start_step as step

@@ -41,18 +41,18 @@ use denote.Triple.Table.{entered, cited}
 use denote.Triple.Walked.{says, Stays, stay-ref, stay-dropped, gave-slice, walkOf, goes-dropped, goes-ref, goes-gave-slice, Walks, ends-at, walked, walk-meets}
 use denote.Exit.{yes}
 use Rattle.transaction.specs.declared.session.Session.{Session}
-use Rattle.mock.specs.declared.steps.SessionStep.{SessionStep}
-use Rattle.mock.specs.Steps.{StepMeets, writeStep}
+use Rattle.effects.specs.declared.SessionStep.{SessionStep}
+use Rattle.effects.specs.Steps.{StepMeets, writeStep}
 use Rattle.transaction.proofs.session.Session as T
 use Rattle.transaction.proofs.session.Session.Laws as T′
-use Rattle.mock.proofs.steps.SessionStep as Rec
-use Rattle.mock.proofs.steps.SessionStep.Laws as Rec′
+use Rattle.effects.proofs.SessionStep as Rec
+use Rattle.effects.proofs.SessionStep.Laws as Rec′
 use Rattle.answer.proofs.error.MockAnswer as N
 use Rattle.answer.proofs.error.MockAnswer.Laws as N′
-use Rattle.mock.proofs.steps.write_step as step
-use Rattle.mock.proofs.steps.write_step.Symbol as step-def
-use Rattle.mock.proofs.steps.write_step.Symbol.{name as #callee}
-use Rattle.mock.proofs.steps.write_step.Met as step-thm
+use Rattle.effects.proofs.write_step as step
+use Rattle.effects.proofs.write_step.Symbol as step-def
+use Rattle.effects.proofs.write_step.Symbol.{name as #callee}
+use Rattle.effects.proofs.write_step.Met as step-thm
 use Rattle.session.proofs.Stepped.{val, ans, answer-is, session-is, stepped, answer-field, session-field}
 use Rattle.session.proofs.bulk.write_bulk.Key.{name as #own}
 use Rattle.session.proofs.bulk.write_bulk as F
@@ -151,4 +151,4 @@ write-bulk-spec 𝓤 H 𝓜 𝓖 𝓡 =
     entered 𝓤 H (tripleOf 𝓤 H (𝓖 .A) F.signature (F.spec 𝓤 H (𝓖 .A) (𝓜 .mem) (𝓡 .run)))
     (tables 𝓤 H 𝓜 𝓡 code.env .C) (tables 𝓤 H 𝓜 𝓡 code.env .Λ) #own code.function (code.unfolded 𝓤 H 𝓜 𝓡)
     (meets 𝓤 H (𝓖 .A) (givenOf 𝓤 H 𝓜 𝓖) (𝓜 .mem) (𝓡 .run) (tablesOf 𝓤 H 𝓜 (tables 𝓤 H 𝓜 𝓡 code.env))
-    (cited 𝓤 H (Step 𝓤 H (𝓖 .A) (𝓜 .mem) (𝓡 .run)) 𝓜 𝓡 code.env #callee step-def.routine code.calls-mock·steps·write-step (step-thm.met 𝓤 H 𝓜 𝓖 𝓡)))
+    (cited 𝓤 H (Step 𝓤 H (𝓖 .A) (𝓜 .mem) (𝓡 .run)) 𝓜 𝓡 code.env #callee step-def.routine code.calls-effects·write-step (step-thm.met 𝓤 H 𝓜 𝓖 𝓡)))

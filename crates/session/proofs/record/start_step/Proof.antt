@@ -9,8 +9,8 @@ use borrow.Author.Needs.{needs}
 use Rattle.wire.specs.Told.{Told}
 use Rattle.answer.proofs.Telling.{answers-done}
 use Rattle.answer.specs.declared.range.FlashSectors.{FlashSectors}
-use Rattle.mock.specs.Steps.{sizeResult, sizeAnswer}
-use Rattle.mock.proofs.Lengths.{whole, kept}
+use Rattle.answer.specs.Flash.{sizeResult, sizeAnswer}
+use Rattle.effects.proofs.Lengths.{whole, kept}
 use Rattle.session.specs.Start.{startStep, startStepOf}
 use Rattle.session.proofs.record.start_step.Statement.{statement}
 use Rattle.session.proofs.record.start_step.Tie as tie

@@ -2,8 +2,8 @@
 -- Assumes nothing.
 use mathlib.Core.Path.{refl}
 use borrow.Author.Needs.{needs}
+use Rattle.answer.proofs.Telling.{size-answers}
 use Rattle.mock.specs.Device.{created, freshState}
-use Rattle.mock.proofs.Lengths.{size-answers}
 use Rattle.mock.proofs.device.MockState.new.Statement.{statement}
 use Rattle.mock.proofs.device.MockState.new.Tie as tie
 

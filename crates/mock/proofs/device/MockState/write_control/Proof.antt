@@ -12,7 +12,7 @@ use Rattle.answer.specs.Told.{errorValues}
 use Rattle.answer.specs.declared.error.MockTransportError.the-variants.{UnsupportedControl, StoreLength}
 use Rattle.answer.proofs.Telling.{answers-error}
 use Rattle.mock.specs.Device.{controlRules, writeControl, withAreas}
-use Rattle.mock.proofs.Lengths.{area-answers}
+use Rattle.mock.proofs.Appended.{area-answers}
 use Rattle.mock.proofs.device.MockState.write_control.Statement.{statement}
 use Rattle.mock.proofs.device.MockState.write_control.Tie as tie
 

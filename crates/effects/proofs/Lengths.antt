@@ -1,0 +1,41 @@
+-- What the length of a lent flash tells: 60 and 61, which keep everything, or a number of sectors.
+-- Assumes nothing.
+use Prim.Native.Nat.{ℕ, _/_, _≤_}
+use mathlib.Core.Path.{_≡_, refl, ap, sym, _∙_}
+use mathlib.Core.List.{List}
+use native.Mathlib.Omega.{arith}
+use Rattle.wire.specs.Told.{given, refused}
+use Rattle.block.specs.Sector.{sectorSize}
+use Rattle.block.specs.Signature.{noSignature}
+use Rattle.answer.specs.Told.{errorNumber, errorValues, errorTold}
+use Rattle.answer.specs.Flash.{mostSectors, flashSectors, sizeTold, sizeResult, sizeAnswer}
+use Rattle.answer.specs.declared.error.MockTransportError.{MockTransportError}
+use Rattle.answer.specs.declared.range.FlashSectors.{FlashSectors}
+use Rattle.answer.specs.declared.range.FlashSectors.the-variants.{Whole, Refused}
+use Rattle.answer.proofs.Telling.{answers-error}
+use Rattle.answer.proofs.Fitting.{whole-sectors}
+use Rattle.transaction.specs.declared.session.Session.{Session}
+use Rattle.effects.specs.Steps.{Step, keeps, StepMeets}
+use Rattle.effects.specs.declared.SessionStep.{SessionStep}
+
+-- a flash that is taken has so many sectors
+pub taken : (n sectors : ℕ) → flashSectors n ≡ given sectors → (n / sectorSize ≡ sectors) × (sectors ≤ mostSectors)
+taken n sectors e = let h = whole-sectors n sectors e in (omega arith, h .1)
+
+module _ (size : FlashSectors) (n : ℕ) (told : sizeTold size ≡ flashSectors n) where
+  pub whole : (sectors : ℕ) → size ≡ Whole sectors → flashSectors n ≡ given sectors
+  unfolding sizeTold
+  whole sectors e = sym told ∙ ap sizeTold e
+
+  short : (error : MockTransportError) → size ≡ Refused error → flashSectors n ≡ errorTold error noSignature
+  unfolding sizeTold
+  short error e = sym told ∙ ap sizeTold e
+
+  -- one that is refused keeps everything
+  pub kept : (s : Session) (lent : List ℕ) (error : MockTransportError) → size ≡ Refused error → {r : SessionStep} {t : Step}
+      → r ≡ record { answer = sizeAnswer size; session = s }
+      → ((number : ℕ) (values : List ℕ) → flashSectors n ≡ refused number values → t ≡ keeps s lent number values) → StepMeets r lent t
+  unfolding sizeResult
+  kept s lent error e f g =
+      rw (f, g (errorNumber error) (errorValues error noSignature) (short error e), e)
+      (record { tells = answers-error error (errorTold error noSignature) refl; next = refl; leaves = refl })

@@ -1,0 +1,2 @@
+-- What a stand-in device says of itself.
+pub mod Config
