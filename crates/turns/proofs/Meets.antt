@@ -41,8 +41,6 @@ use Rattle.steps.specs.Give as give
 use Rattle.mock.specs.declared.device.MockState.{MockState}
 use Rattle.mock.specs.Device.{Call, writeBulk, readBulk}
 use Rattle.budget.specs.Run.{Turned, ends, goes}
-use Rattle.turns.specs.declared.Stop.{Stop}
-use Rattle.turns.specs.declared.Stop.the-variants as stop
 use Rattle.turns.specs.declared.UsbTurned.{UsbTurned}
 use Rattle.turns.specs.Turn.{UsbState, usbState, onward, wrote, landed, gives, received, got, bufferFor, transfers, usbTurn}
 use Rattle.turns.specs.Answers.{stopTold, signatureTold, besideTold, turnTold, turnAfter, whereDone, stopAt, turnedBy, endedBy, besideTurned, TurnMeets}

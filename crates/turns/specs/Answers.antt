@@ -55,7 +55,7 @@ abbrev pub whereDone : {A : Type 0} → MockResult → A → A → A
 whereDone Done after before = after
 whereDone (Refused error) after before = before
 
--- what a step that asks for no transfer stops with
+-- what a step that asks for no transfer stops with; nothing is said of the others
 unfoldable pub stopAt : UsbStep → Stop
 stopAt (step.Finished finish) = stop.Finished finish
 stopAt step.OutputTooShort = stop.OutputTooShort

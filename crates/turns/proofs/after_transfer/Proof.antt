@@ -1,6 +1,6 @@
 -- What the device answered is told, and nothing else changes.
 -- Assumes nothing.
-use mathlib.Core.Path.{_≡_, ap₂, sym, subst}
+use mathlib.Core.Path.{ap₂, sym, subst}
 use borrow.Author.Needs.{needs}
 use Rattle.finish.specs.declared.Beside.{Beside}
 use Rattle.turns.specs.declared.Turn.{Turn}

@@ -1,6 +1,6 @@
 -- Each arm of the match is one law: what the step asked for is known, and the transfer's own function did it.
 -- Assumes nothing.
-use Prim.Native.Nat.{ℕ, _≤_}
+use Prim.Native.Nat.{_≤_}
 use mathlib.Core.Path.{_≡_, refl, sym, subst}
 use mathlib.Core.Bool.{Bool, true, false}
 use borrow.Author.Needs.{needs}
