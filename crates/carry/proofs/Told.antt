@@ -18,6 +18,9 @@ use Rattle.turns.specs.Turn.{UsbState, usbState}
 use Rattle.runner.specs.declared.UsbRun.{UsbRun}
 use Rattle.runner.specs.Answers.{answerEnd, RunMeets}
 use Rattle.runner.specs.Run.{usbRun, wholeBudget}
+use Rattle.verdict.specs.declared.Dealt.{Dealt}
+use Rattle.verdict.specs.Verdict.{numbered, verdictTold}
+use Rattle.verdict.specs.Deal.{OperatedMeets}
 use Rattle.carry.specs.Sectors.{carried, SectorsMeet, device, ranTo, runAt, carries}
 
 -- an operation whose data is no sectors is not run, and any other is
@@ -37,15 +40,20 @@ module _ (operation : ℕ → UsbOperation) (flash bytes : List ℕ) where
       → runAt o flash bytes ≡ carries operation (sectorsIn size) flash bytes
   carries-run a size o told some fresh = rw (fresh, ← told) (sym (carries-counted a some))
 
--- a run at a device that is the fresh one, told as a number
+told-number : (t : Told Reply) → number (numbered t) ≡ number t
+unfolding number numbered
+told-number (given reply) = refl
+told-number (refused n vs) = refl
+
+-- a run at a device that is the fresh one, told as the number of its verdict
 module _ (o : UsbOperation) (d : MockState) (flash bytes : List ℕ) (new : d ≡ device) where
-  pub ran-at : (r : UsbRun) (n : ℕ) (flash-now bytes-now : List ℕ) → RunMeets r flash-now bytes-now (usbRun (usbState o d flash bytes) 0 wholeBudget)
-      → n ≡ number (endTold (answerEnd (r .answer) (r .beside))) → SectorsMeet n flash-now bytes-now (runAt o flash bytes)
+  pub ran-at : (r : UsbRun) (v : Dealt) (n : ℕ) (flash-now bytes-now : List ℕ) → RunMeets r flash-now bytes-now (usbRun (usbState o d flash bytes) 0 wholeBudget)
+      → OperatedMeets v r → n ≡ number (verdictTold (v .verdict) (v .beside)) → SectorsMeet n flash-now bytes-now (runAt o flash bytes)
   unfolding ranTo
-  ran-at r n flash-now bytes-now m e =
+  ran-at r v n flash-now bytes-now m p e =
       subst (λ (x : MockState). SectorsMeet n flash-now bytes-now (ranTo (usbRun (usbState o x flash bytes) 0 wholeBudget))) new
       (record {
-        tells = e ∙ ap (λ (x : End Reply). number (endTold x)) (m .tells);
+        tells = e ∙ ap number (p .tells) ∙ told-number (endTold (answerEnd (r .answer) (r .beside))) ∙ ap (λ (x : End Reply). number (endTold x)) (m .tells);
         flash = ap (λ (s : UsbState). s .flash) (m .leaves);
         leaves = ap (λ (s : UsbState). s .«data») (m .leaves);
       })

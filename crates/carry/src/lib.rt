@@ -27,8 +27,9 @@ fn read_on(operation: UsbOperation, flash: &mut [u8], data: &mut [u8]) -> u8
 {
     let none = [0u8; 0];
     let ran = runner::run_whole(operation, fresh_device(), flash, &none, data);
-    let answer = ran.answer;
-    numbers::of_run(answer)
+    let dealt = verdict::operated(ran);
+    let told = dealt.verdict;
+    numbers::of_verdict(told)
 }
 
 // The whole run of an operation that takes its sectors from `data`.
@@ -37,8 +38,9 @@ fn write_on(operation: UsbOperation, flash: &mut [u8], data: &[u8]) -> u8
 {
     let none = [0u8; 0];
     let ran = runner::run_whole_write(operation, fresh_device(), flash, &none, data);
-    let answer = ran.answer;
-    numbers::of_run(answer)
+    let dealt = verdict::operated(ran);
+    let told = dealt.verdict;
+    numbers::of_verdict(told)
 }
 
 // Sectors of the flash from `first` on into all of `data`: 0 or the number of the refusal.

@@ -1,4 +1,4 @@
--- The run at the device that is made, told as a number.
+-- The run at the device that is made, told as the number of its verdict.
 -- Assumes nothing.
 use denote.Ref.{now}
 use borrow.Author.Needs.{needs}
@@ -8,11 +8,12 @@ use Rattle.carry.proofs.read_on.Tie as tie
 
 returns : tie.Need-returns
 returns c =
-    let a = c .before .before .before .before .before .before .before .before .before .before .before .before .args in
-    let d = c .before .before .before .before .before .before .before .before .before .fresh-device in
-    let run = c .before .before .before .before .before .run-whole in
-    ran-at (a .operation) (d .result) (now (a .flash)) (now (a .«data»)) (d .ensures) (run .result) (c .of-run .result) (run .last .1 .1 .0) (run .last .1 .1 .1 .1 .0) (run .ensures)
-    (c .of-run .ensures (run .result .beside))
+    let a = c .before .before .before .before .before .before .before .before .before .before .before .before .before .args in
+    let d = c .before .before .before .before .before .before .before .before .before .before .fresh-device in
+    let run = c .before .before .before .before .before .before .run-whole in
+    let v = c .before .operated in
+    ran-at (a .operation) (d .result) (now (a .flash)) (now (a .«data»)) (d .ensures) (run .result) (v .result) (c .of-verdict .result) (run .last .1 .1 .0) (run .last .1 .1 .1 .1 .0) (run .ensures) (v .ensures)
+    (c .of-verdict .ensures (v .result .beside))
 
 pub read-on-spec : {M : Type 1} → statement M
-read-on-spec = tie.close (tie.spec (λ c κs. search needs) (λ c. search needs) (λ c κs. search needs) (λ c κs. search needs) (λ c. search needs) (λ c. search needs) returns)
+read-on-spec = tie.close (tie.spec (λ c κs. search needs) (λ c. search needs) (λ c κs. search needs) (λ c κs. search needs) (λ c κs. search needs) (λ c. search needs) (λ c. search needs) returns)

@@ -10,11 +10,13 @@ use Rattle.carry.proofs.write_on.Tie as tie
 
 returns : tie.Need-returns
 returns c =
-    let a = c .before .before .before .before .before .before .before .before .before .args in
-    let d = c .before .before .before .before .before .before .fresh-device in
-    let run = c .before .before .before .run-whole-write in
+    let a = c .before .before .before .before .before .before .before .before .before .before .args in
+    let d = c .before .before .before .before .before .before .before .fresh-device in
+    let run = c .before .before .before .before .run-whole-write in
+    let v = c .before .operated in
     let bytes = lentTo (a .operation .kind) (now (a .«data»)) [] in
-    ran-at (a .operation) (d .result) (now (a .flash)) bytes (d .ensures) (run .result) (c .of-run .result) (run .last .1 .1 .0) bytes (run .ensures) (c .of-run .ensures (run .result .beside))
+    ran-at (a .operation) (d .result) (now (a .flash)) bytes (d .ensures) (run .result) (v .result) (c .of-verdict .result) (run .last .1 .1 .0) bytes (run .ensures) (v .ensures)
+    (c .of-verdict .ensures (v .result .beside))
 
 pub write-on-spec : {M : Type 1} → statement M
-write-on-spec = tie.close (tie.spec (λ c κs. search needs) (λ c. search needs) (λ c κs. search needs) (λ c κs. search needs) (λ c. search needs) returns)
+write-on-spec = tie.close (tie.spec (λ c κs. search needs) (λ c. search needs) (λ c κs. search needs) (λ c κs. search needs) (λ c κs. search needs) (λ c. search needs) returns)
