@@ -1,14 +1,9 @@
 // "Blocks": command and status blocks, read and written.
+use crate::asked::Asked;
 use crate::commands::Built;
 use crate::commands::command;
-use crate::data::data;
-use crate::data::fill;
-use crate::line::LEN;
-use crate::line::Token;
-use crate::line::U8;
-use crate::line::U32;
-use crate::line::is_end;
-use crate::line::number;
+use crate::line::as_u8;
+use crate::line::as_u32;
 use crate::names::CNV;
 use crate::names::CRD;
 use crate::names::CWR;
@@ -17,14 +12,12 @@ use crate::names::SRD;
 use crate::names::STO;
 use crate::out::within;
 use crate::replies;
-use crate::told::Answer;
 use crate::told::Told;
 use crate::told::four;
 use crate::told::nine;
 use crate::told::none;
 use crate::told::one;
 use crate::told::outside;
-use crate::told::plain;
 use crate::told::three;
 use block::output::Written;
 use codes::Status;
@@ -124,7 +117,8 @@ fn mapped_told(parse: StatusParse) -> Told {
     }
 }
 
-fn read_as(name: u64, bytes: &[u8]) -> Told {
+// `crd`, `srd`, `smp`, `sto`
+pub(crate) fn read(name: u64, bytes: &[u8]) -> Told {
     match name {
         CRD => command_told(CommandBlock::from_bytes(bytes)),
         SRD => status_told(CommandStatus::from_bytes(bytes)),
@@ -134,16 +128,6 @@ fn read_as(name: u64, bytes: &[u8]) -> Told {
     }
 }
 
-// `crd`, `srd`, `smp`, `sto`
-pub(crate) fn read(line: &[u8], name: Token, scratch: &mut [u8]) -> Told {
-    let given = data(line, name, LEN, scratch);
-    if !is_end(line, given) {
-        return outside();
-    }
-    let n = within(given.as_usize(), scratch);
-    read_as(name.value, &scratch[..n])
-}
-
 fn written(answer: Written) -> Told {
     match answer {
         Written::Bytes(n) => one(0, n as u64),
@@ -151,101 +135,45 @@ fn written(answer: Written) -> Told {
     }
 }
 
-// What is to be written, or why nothing is.
-enum Draft {
-    Command(CommandBlock),
-    Report(CommandStatus),
-    Refused(CommandBlockParseError),
-    Nothing,
-}
-
-struct Drafted {
-    draft: Draft,
-    signature: [u8; 4],
-}
-
-fn with_signature(draft: Draft, signature: [u8; 4]) -> Drafted {
-    Drafted { draft, signature }
-}
-
-fn constructed(line: &[u8], before: Token) -> Drafted {
-    match command(line, before) {
-        Built::Block(block) => with_signature(Draft::Command(block), [0; 4]),
-        Built::Nothing => with_signature(Draft::Nothing, [0; 4]),
+fn put_built(built: Built, room: &mut [u8]) -> Told {
+    match built {
+        Built::Block(block) => written(block.to_bytes(room)),
+        Built::Nothing => outside(),
     }
 }
 
-fn parsed(parse: CommandParse) -> Drafted {
+fn put_parsed(parse: CommandParse, room: &mut [u8]) -> Told {
     let answer = parse.answer;
     let signature = parse.signature;
     match answer {
-        CommandAnswer::Block(block) => with_signature(Draft::Command(block), signature),
-        CommandAnswer::Refused(error) => with_signature(Draft::Refused(error), signature),
+        CommandAnswer::Block(block) => written(block.to_bytes(room)),
+        CommandAnswer::Refused(error) => command_error(error, signature),
     }
 }
 
-fn converted(line: &[u8], before: Token, scratch: &mut [u8]) -> Drafted {
-    let given = data(line, before, LEN, scratch);
-    if !is_end(line, given) {
-        return with_signature(Draft::Nothing, [0; 4]);
-    }
-    let n = within(given.as_usize(), scratch);
-    parsed(CommandBlock::from_bytes(&scratch[..n]))
-}
-
-fn report_of(tag: u32, residue: u32, byte: u8) -> Draft {
+fn put_report(tag: u32, residue: u32, byte: u8, room: &mut [u8]) -> Told {
     let StatusRead::Known(status) = Status::from_number(byte) else {
-        return Draft::Nothing;
+        return outside();
     };
-    Draft::Report(CommandStatus {
+    let report = CommandStatus {
         tag,
         residue,
         status,
-    })
+    };
+    written(report.to_bytes(room))
 }
 
-fn reported(line: &[u8], before: Token) -> Drafted {
-    let tag = number(line, before, U32);
-    let residue = number(line, tag, U32);
-    let status = number(line, residue, U8);
-    if !is_end(line, status) {
-        return with_signature(Draft::Nothing, [0; 4]);
-    }
-    with_signature(
-        report_of(tag.as_u32(), residue.as_u32(), status.as_u8()),
-        [0; 4],
-    )
-}
-
-fn draft_of(line: &[u8], call: u64, before: Token, scratch: &mut [u8]) -> Drafted {
+fn put(asked: Asked, bytes: &[u8], room: &mut [u8]) -> Told {
+    let call = asked.call;
     match call {
-        CWR => constructed(line, before),
-        CNV => converted(line, before, scratch),
-        _ => reported(line, before),
+        CWR => put_built(command(asked), room),
+        CNV => put_parsed(CommandBlock::from_bytes(bytes), room),
+        _ => put_report(as_u32(asked.a), as_u32(asked.b), as_u8(asked.c), room),
     }
 }
 
-fn put_draft(drafted: Drafted, room: &mut [u8]) -> Told {
-    let draft = drafted.draft;
-    let signature = drafted.signature;
-    match draft {
-        Draft::Command(block) => written(block.to_bytes(room)),
-        Draft::Report(report) => written(report.to_bytes(room)),
-        Draft::Refused(error) => command_error(error, signature),
-        Draft::Nothing => outside(),
-    }
-}
-
-fn put_out(drafted: Drafted, len: Token, byte: Token, scratch: &mut [u8]) -> Answer {
-    fill(scratch, len.as_usize(), byte.as_u8());
-    let n = within(len.as_usize(), scratch);
-    plain(put_draft(drafted, &mut scratch[..n])).with_room(n)
-}
-
-// `cwr`, `cnv`, `swr`: OUTLEN FILL, and what is to be written to the filled scratch
-pub(crate) fn write(line: &[u8], name: Token, scratch: &mut [u8]) -> Answer {
-    let len = number(line, name, LEN);
-    let byte = number(line, len, U8);
-    let drafted = draft_of(line, name.value, byte, scratch);
-    put_out(drafted, len, byte, scratch)
+// `cwr`, `cnv`, `swr`
+pub(crate) fn write(asked: Asked, bytes: &[u8], room: &mut [u8]) -> Told {
+    let n = within(asked.room, room);
+    put(asked, bytes, &mut room[..n])
 }

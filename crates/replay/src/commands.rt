@@ -1,11 +1,8 @@
 // The operations that a line names, with their arguments, as command blocks.
-use crate::line::Token;
-use crate::line::U8;
-use crate::line::U16;
-use crate::line::U32;
-use crate::line::is_end;
-use crate::line::name;
-use crate::line::number;
+use crate::asked::Asked;
+use crate::line::as_u8;
+use crate::line::as_u16;
+use crate::line::as_u32;
 use crate::names::CAP;
 use crate::names::CHP;
 use crate::names::ERA;
@@ -78,86 +75,14 @@ fn ranged(op: u64, tag: u32, first: u32, count: u16) -> Built {
     }
 }
 
-// What an operation's arguments may be: how many, and the most of each.
-struct Wanted {
-    pub count: usize,
-    pub first: u64,
-    pub second: u64,
-}
-
-fn arguments(op: u64) -> Wanted {
+// The block of OP TAG ARGS.
+pub(crate) fn command(asked: Asked) -> Built {
+    let op = asked.op;
+    let tag = as_u32(asked.a);
     match op {
-        ERA | ERF | RDL | WRL => Wanted {
-            count: 2,
-            first: U32,
-            second: U16,
-        },
-        RST => Wanted {
-            count: 1,
-            first: U8,
-            second: 0,
-        },
-        SWI => Wanted {
-            count: 2,
-            first: 1,
-            second: U8,
-        },
-        _ => Wanted {
-            count: 0,
-            first: 0,
-            second: 0,
-        },
-    }
-}
-
-// A number, or nothing read where there is none to read.
-fn argument(line: &[u8], before: Token, is_there: bool, most: u64) -> Token {
-    if is_there {
-        number(line, before, most)
-    } else {
-        before
-    }
-}
-
-// OP TAG ARGS, whether they were all of the line, and of the language.
-pub(crate) struct Parsed {
-    pub op: u64,
-    pub tag: u32,
-    pub first: Token,
-    pub second: Token,
-    pub is_whole: bool,
-}
-
-pub(crate) fn parse(line: &[u8], before: Token) -> Parsed {
-    let op = name(line, before);
-    let tag = number(line, op, U32);
-    let wanted = arguments(op.value);
-    let first = argument(line, tag, wanted.count > 0, wanted.first);
-    let second = argument(line, first, wanted.count > 1, wanted.second);
-    Parsed {
-        op: op.value,
-        tag: tag.as_u32(),
-        first,
-        second,
-        is_whole: is_end(line, second),
-    }
-}
-
-fn block(op: u64, tag: u32, first: Token, second: Token) -> Built {
-    match op {
-        RST => reset(tag, first.as_u8()),
-        SWI => switched(tag, first.value, second.as_u8()),
-        ERA | ERF | RDL | WRL => ranged(op, tag, first.as_u32(), second.as_u16()),
+        RST => reset(tag, as_u8(asked.b)),
+        SWI => switched(tag, asked.b, as_u8(asked.c)),
+        ERA | ERF | RDL | WRL => ranged(op, tag, as_u32(asked.b), as_u16(asked.c)),
         _ => plain(op, tag),
     }
-}
-
-pub(crate) fn command(line: &[u8], before: Token) -> Built {
-    let parsed = parse(line, before);
-    if !parsed.is_whole {
-        return Built::Nothing;
-    }
-    let first = parsed.first;
-    let second = parsed.second;
-    block(parsed.op, parsed.tag, first, second)
 }

@@ -1,15 +1,12 @@
 // "The device": raw calls on the current device, and how it is shown.
+use crate::asked::Asked;
+use crate::asked::FLASH;
 use crate::blocks::command_error;
 use crate::data::copy;
-use crate::data::data;
 use crate::data::fill;
-use crate::line::LEN;
-use crate::line::Token;
-use crate::line::U8;
-use crate::line::U16;
 use crate::line::after;
-use crate::line::is_end;
-use crate::line::number;
+use crate::line::as_u8;
+use crate::line::as_u16;
 use crate::names::ARE;
 use crate::names::BRD;
 use crate::names::BWR;
@@ -76,16 +73,6 @@ pub(crate) fn no_device() -> Device {
     device_of(false, made.state, 0)
 }
 
-// A start that was not of the language: there is no device then.
-fn lost() -> Stood {
-    with_answer(plain(outside()), no_device())
-}
-
-// A line that was not of the language, or no device to ask.
-fn unasked(device: Device) -> Stood {
-    with_answer(plain(outside()), device)
-}
-
 // 56 is followed by the inner number and its values.
 fn inner(told: Told) -> Told {
     let v = told.values;
@@ -127,30 +114,17 @@ fn told_of(answer: MockAnswer) -> Told {
 
 fn created(made: MockStep, flash: usize) -> Stood {
     let told = told_of(made.answer);
-    let state = made.state;
-    if told.number == 0 {
-        with_answer(plain(told).with_device(), device_of(true, state, flash))
-    } else {
-        with_answer(plain(told), no_device())
-    }
-}
-
-fn create(config: MockDeviceConfig, flash: &[u8], store: &[u8]) -> Stood {
-    created(MockState::new(config, flash, store), flash.len())
+    let is_there = told.number == 0;
+    with_answer(plain(told), device_of(is_there, made.state, flash))
 }
 
 fn started(config: MockDeviceConfig, flash: &[u8], n: usize, store: &[u8], m: usize) -> Stood {
-    let n = within(n, flash);
-    let m = within(m, store);
-    create(config, &flash[..n], &store[..m])
+    let made = MockState::new(config, between(flash, 0, n), between(store, 0, m));
+    created(made, n)
 }
 
 // `dvd`
-fn default(line: &[u8], name: Token, flash: &mut [u8], store: &[u8]) -> Stood {
-    let size = number(line, name, LEN);
-    if !is_end(line, size) {
-        return lost();
-    }
+fn default(asked: Asked, flash: &mut [u8], store: &[u8]) -> Stood {
     let n = DEFAULT_SECTORS * 512;
     fill(flash, n, 255);
     started(
@@ -158,220 +132,100 @@ fn default(line: &[u8], name: Token, flash: &mut [u8], store: &[u8]) -> Stood {
         flash,
         n,
         store,
-        size.as_usize(),
+        asked.a as usize,
     )
 }
 
-// DATA of exactly as many bytes as there is room for.
-fn array(line: &[u8], before: Token, scratch: &mut [u8], into: &mut [u8]) -> Token {
-    let given = data(line, before, LEN, scratch);
-    let n = within(given.as_usize(), scratch);
-    copy(&scratch[..n], into);
-    Token {
-        value: 0,
-        at: given.at,
-        ok: if given.as_usize() == into.len() {
-            given.ok
-        } else {
-            false
-        },
-    }
-}
-
-struct Configured {
-    config: MockDeviceConfig,
-    last: Token,
-}
-
-// BLOCKSIZE CHIP FLASHID CAPABILITY EXTRA
-fn config_of(line: &[u8], before: Token, scratch: &mut [u8]) -> Configured {
+// A configuration's arrays stand one behind the other.
+fn config_of(block_size_sectors: u16, bytes: &[u8]) -> MockDeviceConfig {
     let mut chip_info = [0u8; 16];
     let mut flash_id = [0u8; 5];
     let mut capability = [0u8; 8];
     let mut flash_info_extra = [0u8; 5];
-    let size = number(line, before, U16);
-    let chip = array(line, size, scratch, &mut chip_info);
-    let id = array(line, chip, scratch, &mut flash_id);
-    let flags = array(line, id, scratch, &mut capability);
-    let last = array(line, flags, scratch, &mut flash_info_extra);
-    let config = MockDeviceConfig {
+    copy(between(bytes, 0, 16), &mut chip_info);
+    copy(between(bytes, 16, 21), &mut flash_id);
+    copy(between(bytes, 21, 29), &mut capability);
+    copy(between(bytes, 29, FLASH), &mut flash_info_extra);
+    MockDeviceConfig {
         chip_info,
         flash_id,
         capability,
-        block_size_sectors: size.as_u16(),
+        block_size_sectors,
         flash_info_extra,
-    };
-    Configured { config, last }
+    }
 }
 
 // `dvc`
-fn configure(
-    line: &[u8],
-    name: Token,
-    scratch: &mut [u8],
-    flash: &mut [u8],
-    store: &[u8],
-) -> Stood {
-    let size = number(line, name, LEN);
-    let configured = config_of(line, size, scratch);
-    let given = data(line, configured.last, LEN, flash);
-    if !is_end(line, given) {
-        return lost();
-    }
+fn configure(asked: Asked, bytes: &[u8], flash: &mut [u8], store: &[u8]) -> Stood {
+    let given = between(bytes, FLASH, bytes.len());
+    copy(given, flash);
     started(
-        configured.config,
+        config_of(as_u16(asked.b), bytes),
         flash,
-        given.as_usize(),
+        given.len(),
         store,
-        size.as_usize(),
+        asked.a as usize,
     )
 }
 
-fn called(step: MockStep, flash: usize) -> Stood {
-    let answer = plain(told_of(step.answer)).with_device();
-    with_answer(answer, device_of(true, step.state, flash))
-}
-
-fn written(device: Device, flash: &mut [u8], bytes: &[u8]) -> Stood {
-    let state = device.state;
-    called(state.write_bulk(flash, bytes), device.flash)
-}
-
-fn write_given(
-    line: &[u8],
-    given: Token,
-    device: Device,
-    scratch: &[u8],
-    flash: &mut [u8],
-) -> Stood {
-    if !device.is_there || !is_end(line, given) {
-        return unasked(device);
+fn start(asked: Asked, bytes: &[u8], flash: &mut [u8], store: &[u8]) -> Stood {
+    if !asked.ok {
+        return with_answer(plain(outside()), no_device());
     }
-    let n = within(given.as_usize(), scratch);
-    let m = within(device.flash, flash);
-    written(device, &mut flash[..m], &scratch[..n])
+    if asked.call == DVD {
+        return default(asked, flash, store);
+    }
+    configure(asked, bytes, flash, store)
+}
+
+fn called(step: MockStep, flash: usize) -> Stood {
+    with_answer(
+        plain(told_of(step.answer)),
+        device_of(true, step.state, flash),
+    )
 }
 
 // `bwr`
-fn write_bulk(
-    line: &[u8],
-    name: Token,
-    device: Device,
-    scratch: &mut [u8],
-    flash: &mut [u8],
-) -> Stood {
-    let given = data(line, name, LEN, scratch);
-    write_given(line, given, device, scratch, flash)
-}
-
-fn with_room(done: Stood, n: usize) -> Stood {
-    let answer = done.answer;
-    let device = done.device;
-    with_answer(answer.with_room(n), device)
-}
-
-fn read(device: Device, flash: &[u8], room: &mut [u8]) -> Stood {
+fn write_bulk(device: Device, bytes: &[u8], flash: &mut [u8]) -> Stood {
     let state = device.state;
-    let done = called(state.read_bulk(flash, room), device.flash);
-    with_room(done, room.len())
+    let n = within(device.flash, flash);
+    called(state.write_bulk(&mut flash[..n], bytes), device.flash)
 }
 
 // `brd`
-fn read_bulk(line: &[u8], name: Token, device: Device, scratch: &mut [u8], flash: &[u8]) -> Stood {
-    let len = number(line, name, LEN);
-    let byte = number(line, len, U8);
-    if !device.is_there || !is_end(line, byte) {
-        return unasked(device);
-    }
-    fill(scratch, len.as_usize(), byte.as_u8());
-    let n = within(len.as_usize(), scratch);
-    let m = within(device.flash, flash);
-    read(device, &flash[..m], &mut scratch[..n])
-}
-
-// The fields of a control write.
-struct Request {
-    request_type: u8,
-    request: u8,
-    value: u16,
-    index: u16,
-    last: Token,
-}
-
-fn request_of(line: &[u8], name: Token) -> Request {
-    let kind = number(line, name, U8);
-    let request = number(line, kind, U8);
-    let value = number(line, request, U16);
-    let last = number(line, value, U16);
-    Request {
-        request_type: kind.as_u8(),
-        request: request.as_u8(),
-        value: value.as_u16(),
-        index: last.as_u16(),
-        last,
-    }
-}
-
-fn controlled(device: Device, request: Request, bytes: &[u8], store: &mut [u8]) -> Stood {
+fn read_bulk(device: Device, flash: &[u8], room: &mut [u8], len: usize) -> Stood {
     let state = device.state;
+    let n = within(len, room);
+    called(
+        state.read_bulk(between(flash, 0, device.flash), &mut room[..n]),
+        device.flash,
+    )
+}
+
+// `ctl`
+fn write_control(device: Device, asked: Asked, bytes: &[u8], store: &mut [u8]) -> Stood {
+    let state = device.state;
+    let n = within(device.store, store);
     let step = state.write_control(
-        request.request_type,
-        request.request,
-        request.value,
-        request.index,
+        as_u8(asked.a),
+        as_u8(asked.b),
+        as_u16(asked.c),
+        as_u16(asked.d),
         bytes,
-        store,
+        &mut store[..n],
     );
     called(step, device.flash)
 }
 
-fn control_given(
-    line: &[u8],
-    given: Token,
-    device: Device,
-    request: Request,
-    scratch: &[u8],
-    store: &mut [u8],
-) -> Stood {
-    if !device.is_there || !is_end(line, given) {
-        return unasked(device);
-    }
-    let n = within(given.as_usize(), scratch);
-    let m = within(device.store, store);
-    controlled(device, request, &scratch[..n], &mut store[..m])
-}
-
-// `ctl`
-fn write_control(
-    line: &[u8],
-    name: Token,
-    device: Device,
-    scratch: &mut [u8],
-    store: &mut [u8],
-) -> Stood {
-    let request = request_of(line, name);
-    let given = data(line, request.last, LEN, scratch);
-    control_given(line, given, device, request, scratch, store)
-}
-
-fn area_answer(found: AreaFound, store: &[u8], scratch: &mut [u8]) -> Answer {
+// `are`
+fn area(found: AreaFound, store: &[u8], room: &mut [u8]) -> Answer {
     match found {
         AreaFound::NotHeld => plain(one(0, 0)),
         AreaFound::Held { start, length } => {
-            copy(between(store, start, after(start, length)), scratch);
+            copy(between(store, start, after(start, length)), room);
             with_tail(one(0, 1), Tail::Room(length))
         }
     }
-}
-
-// `are`
-fn area(line: &[u8], name: Token, device: Device, store: &[u8], scratch: &mut [u8]) -> Answer {
-    let number = number(line, name, U16);
-    if !device.is_there || !is_end(line, number) {
-        return plain(outside());
-    }
-    let state = device.state;
-    area_answer(state.maskrom_area(number.as_u16()), store, scratch)
 }
 
 fn reset_told(last: LastReset) -> Told {
@@ -381,32 +235,49 @@ fn reset_told(last: LastReset) -> Told {
     }
 }
 
-// `lst`
-fn last_reset(line: &[u8], name: Token, device: Device) -> Told {
-    if !device.is_there || !is_end(line, name) {
-        return outside();
-    }
+// `are`, `lst`
+fn looked(call: u64, number: u16, device: Device, store: &[u8], room: &mut [u8]) -> Answer {
     let state = device.state;
-    reset_told(state.last_reset())
+    if call == ARE {
+        return area(state.maskrom_area(number), store, room);
+    }
+    plain(reset_told(state.last_reset()))
 }
 
-pub(crate) fn answer(
-    line: &[u8],
-    name: Token,
+fn asked_of(
+    asked: Asked,
     device: Device,
-    scratch: &mut [u8],
+    bytes: &[u8],
+    room: &mut [u8],
     flash: &mut [u8],
     store: &mut [u8],
 ) -> Stood {
-    let letters = name.value;
-    match letters {
-        DVD => default(line, name, flash, store),
-        DVC => configure(line, name, scratch, flash, store),
-        BWR => write_bulk(line, name, device, scratch, flash),
-        BRD => read_bulk(line, name, device, scratch, flash),
-        CTL => write_control(line, name, device, scratch, store),
-        ARE => with_answer(area(line, name, device, store, scratch), device),
-        _ => with_answer(plain(last_reset(line, name, device)), device),
+    let call = asked.call;
+    match call {
+        BWR => write_bulk(device, bytes, flash),
+        BRD => read_bulk(device, flash, room, asked.room),
+        CTL => write_control(device, asked, bytes, store),
+        _ => with_answer(looked(call, as_u16(asked.a), device, store, room), device),
+    }
+}
+
+pub(crate) fn answer(
+    asked: Asked,
+    device: Device,
+    bytes: &[u8],
+    room: &mut [u8],
+    flash: &mut [u8; 65536],
+    store: &mut [u8; 65536],
+) -> Stood {
+    let call = asked.call;
+    match call {
+        DVD | DVC => start(asked, bytes, flash, store),
+        _ => {
+            if !device.is_there || !asked.ok {
+                return with_answer(plain(outside()), device);
+            }
+            asked_of(asked, device, bytes, room, flash, store)
+        }
     }
 }
 
@@ -494,16 +365,16 @@ fn shown(out: &mut [u8], at: usize, device: Device, flash: &[u8], store: &[u8]) 
     reset_text(out, next, state)
 }
 
-// The device's sections, where the answer has them.
+// The device's sections, where the answer has them and there is a device.
 pub(crate) fn show(
     out: &mut [u8],
     at: usize,
-    is_there: bool,
+    is_shown: bool,
     device: Device,
     flash: &[u8],
     store: &[u8],
 ) -> usize {
-    if is_there {
+    if is_shown && device.is_there {
         shown(out, at, device, flash, store)
     } else {
         at

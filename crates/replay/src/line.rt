@@ -131,19 +131,23 @@ pub(crate) fn number(line: &[u8], before: Token, most: u64) -> Token {
 }
 
 impl Token {
-    pub(crate) fn as_u8(self) -> u8 {
-        (self.value % 256) as u8
-    }
-
-    pub(crate) fn as_u16(self) -> u16 {
-        (self.value % 65536) as u16
-    }
-
     pub(crate) fn as_u32(self) -> u32 {
-        (self.value % 4294967296) as u32
+        as_u32(self.value)
     }
 
     pub(crate) fn as_usize(self) -> usize {
         self.value as usize
     }
+}
+
+pub(crate) fn as_u8(n: u64) -> u8 {
+    (n % 256) as u8
+}
+
+pub(crate) fn as_u16(n: u64) -> u16 {
+    (n % 65536) as u16
+}
+
+pub(crate) fn as_u32(n: u64) -> u32 {
+    (n % 4294967296) as u32
 }

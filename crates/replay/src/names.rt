@@ -85,7 +85,6 @@ pub(crate) enum About {
     Upload,
     // an operation or an upload, and the device
     Run,
-    Load,
 }
 
 pub(crate) fn about_of(name: u64) -> About {
@@ -93,8 +92,39 @@ pub(crate) fn about_of(name: u64) -> About {
         OPN | STP | GIV => About::Operation,
         DVD | DVC | BWR | BRD | CTL | ARE | LST => About::Device,
         UPL | UST => About::Upload,
-        RUN => About::Run,
-        URN => About::Load,
+        RUN | URN => About::Run,
         _ => About::Nothing,
+    }
+}
+
+// The sections of a call's answer: a run's steps.
+pub(crate) fn has_steps(call: u64) -> bool {
+    match call {
+        RUN | URN => true,
+        _ => false,
+    }
+}
+
+// The room, which is OUTLEN bytes of FILL before the call.
+pub(crate) fn has_room(call: u64) -> bool {
+    match call {
+        CWR | CNV | SWR | STP | BRD | UST => true,
+        _ => false,
+    }
+}
+
+// The caller's data.
+pub(crate) fn has_own(call: u64) -> bool {
+    match call {
+        STP | GIV | RUN => true,
+        _ => false,
+    }
+}
+
+// The device, where there is one.
+pub(crate) fn has_device(call: u64) -> bool {
+    match call {
+        DVD | DVC | BWR | BRD | CTL | RUN | URN => true,
+        _ => false,
     }
 }

@@ -1,9 +1,4 @@
 // "Numbers": a number read as a direction, a code, a status, a reset opcode, a storage index.
-use crate::line::Token;
-use crate::line::U8;
-use crate::line::call;
-use crate::line::is_end;
-use crate::line::number;
 use crate::names::COD;
 use crate::names::DIR;
 use crate::names::IDX;
@@ -59,7 +54,7 @@ pub(crate) fn storage(index: StorageIndex) -> Told {
     }
 }
 
-fn read(name: u64, n: u8) -> Told {
+pub(crate) fn read(name: u64, n: u8) -> Told {
     match name {
         DIR => direction(n),
         COD => code(n),
@@ -67,14 +62,5 @@ fn read(name: u64, n: u8) -> Told {
         RST => reset(n),
         IDX => storage(StorageIndex::from_number(n)),
         _ => outside(),
-    }
-}
-
-pub(crate) fn answer(line: &[u8], name: Token) -> Told {
-    let n = number(line, name, U8);
-    if is_end(line, n) {
-        read(name.value, n.as_u8())
-    } else {
-        outside()
     }
 }

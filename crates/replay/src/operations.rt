@@ -1,18 +1,12 @@
 // "Operations": the current operation, stepped by hand.
+use crate::asked::Asked;
 use crate::blocks::operation_error;
 use crate::commands::IndexRead;
-use crate::commands::Parsed;
 use crate::commands::index;
-use crate::commands::parse;
-use crate::data::data;
-use crate::data::fill;
-use crate::line::LEN;
-use crate::line::Token;
-use crate::line::U8;
-use crate::line::U32;
-use crate::line::is_end;
-use crate::line::name;
-use crate::line::number;
+use crate::data::copy;
+use crate::line::as_u8;
+use crate::line::as_u16;
+use crate::line::as_u32;
 use crate::names::CAP;
 use crate::names::CHP;
 use crate::names::ERA;
@@ -27,6 +21,7 @@ use crate::names::STP;
 use crate::names::SWI;
 use crate::names::WRL;
 use crate::numbers::storage;
+use crate::out::between;
 use crate::out::within;
 use crate::replies::capability_value;
 use crate::replies::chip_value;
@@ -119,16 +114,15 @@ fn switched(tag: u32, is_named: u64, n: u8) -> Current {
     }
 }
 
-fn with_arguments(parsed: Parsed) -> Current {
-    let op = parsed.op;
-    let first = parsed.first;
-    let second = parsed.second;
+fn with_arguments(asked: Asked) -> Current {
+    let op = asked.op;
+    let tag = as_u32(asked.a);
     match op {
-        ERA => begun(erase_lba(parsed.tag, first.as_u32(), second.as_u16())),
-        ERF => begun(erase_force(parsed.tag, first.as_u32(), second.as_u16())),
-        RST => reset(parsed.tag, first.as_u8()),
-        SWI => switched(parsed.tag, first.value, second.as_u8()),
-        _ => simple(op, parsed.tag),
+        ERA => begun(erase_lba(tag, as_u32(asked.b), as_u16(asked.c))),
+        ERF => begun(erase_force(tag, as_u32(asked.b), as_u16(asked.c))),
+        RST => reset(tag, as_u8(asked.b)),
+        SWI => switched(tag, asked.b, as_u8(asked.c)),
+        _ => simple(op, tag),
     }
 }
 
@@ -137,15 +131,6 @@ fn started(current: Current) -> Operated {
         with_answer(plain(none(0)), current)
     } else {
         with_answer(plain(outside()), current)
-    }
-}
-
-fn without_data(line: &[u8], before: Token) -> Operated {
-    let parsed = parse(line, before);
-    if parsed.is_whole {
-        started(with_arguments(parsed))
-    } else {
-        started(no_operation())
     }
 }
 
@@ -159,41 +144,32 @@ fn sector_start(start: UsbStart, size: usize) -> Operated {
     }
 }
 
-fn with_data(line: &[u8], op: Token, own: &mut [u8]) -> Operated {
-    let tag = number(line, op, U32);
-    let first = number(line, tag, U32);
-    let given = data(line, first, LEN, own);
-    if !is_end(line, given) {
-        return started(no_operation());
-    }
-    let size = given.as_usize();
-    if op.value == RDL {
-        sector_start(read_lba(tag.as_u32(), first.as_u32(), size), size)
-    } else {
-        sector_start(write_lba(tag.as_u32(), first.as_u32(), size), size)
+fn opened(asked: Asked) -> Operated {
+    let op = asked.op;
+    let tag = as_u32(asked.a);
+    let first = as_u32(asked.b);
+    match op {
+        RDL => sector_start(read_lba(tag, first, asked.len), asked.len),
+        WRL => sector_start(write_lba(tag, first, asked.len), asked.len),
+        _ => started(with_arguments(asked)),
     }
 }
 
 // `opn`
-fn open(line: &[u8], call: Token, own: &mut [u8]) -> Operated {
-    let op = name(line, call);
-    let letters = op.value;
-    match letters {
-        RDL | WRL => with_data(line, op, own),
-        _ => without_data(line, call),
+fn open(asked: Asked, bytes: &[u8], own: &mut [u8]) -> Operated {
+    if !asked.ok {
+        return started(no_operation());
     }
+    copy(bytes, own);
+    opened(asked)
 }
 
 fn reply_value(reply: UsbReply, beside: Beside) -> Answer {
-    let chip = beside.chip_info;
-    let id = beside.flash_id;
-    let info = beside.flash_info;
-    let flags = beside.capability;
     match reply {
-        UsbReply::ChipInfo => chip_value(chip),
-        UsbReply::FlashId => id_value(id),
-        UsbReply::FlashInfo => info_value(none(0), info),
-        UsbReply::Capability => capability_value(none(0), flags),
+        UsbReply::ChipInfo => chip_value(beside.chip_info),
+        UsbReply::FlashId => id_value(beside.flash_id),
+        UsbReply::FlashInfo => info_value(none(0), beside.flash_info),
+        UsbReply::Capability => capability_value(none(0), beside.capability),
         UsbReply::Nothing => plain(none(0)),
         UsbReply::Storage(index) => plain(storage(index)),
         UsbReply::Sectors(moved) => plain(one(0, moved.0 as u64)),
@@ -222,29 +198,16 @@ fn step_answer(step: UsbStep, beside: Beside) -> Answer {
     }
 }
 
-fn stepped(current: Current, own: &[u8], out: &mut [u8]) -> Operated {
-    let record = current.record;
-    let done = record.step(own, out);
-    let step = done.step;
-    let beside = done.beside;
-    let next = done.next;
-    let answer = step_answer(step, beside)
-        .with_room(out.len())
-        .with_own(own.len());
-    with_answer(answer, current_of(true, next, current.length))
-}
-
 // `stp`
-fn step(line: &[u8], call: Token, current: Current, own: &[u8], scratch: &mut [u8]) -> Operated {
-    let len = number(line, call, LEN);
-    let byte = number(line, len, U8);
-    if !current.is_there || !is_end(line, byte) {
-        return with_answer(plain(outside()), current);
-    }
-    fill(scratch, len.as_usize(), byte.as_u8());
-    let n = within(current.length, own);
-    let m = within(len.as_usize(), scratch);
-    stepped(current, &own[..n], &mut scratch[..m])
+fn step(current: Current, own: &[u8], room: &mut [u8], len: usize) -> Operated {
+    let record = current.record;
+    let n = within(len, room);
+    let done = record.step(between(own, 0, current.length), &mut room[..n]);
+    let step = done.step;
+    with_answer(
+        step_answer(step, done.beside),
+        current_of(true, done.next, current.length),
+    )
 }
 
 fn giving_told(giving: Giving) -> Told {
@@ -256,43 +219,36 @@ fn giving_told(giving: Giving) -> Told {
     }
 }
 
-fn given(current: Current, bytes: &[u8], own: &mut [u8]) -> Operated {
-    let record = current.record;
+fn given(record: UsbOperation, length: usize, bytes: &[u8], own: &mut [u8]) -> Operated {
     let done = record.give(bytes, own);
     let giving = done.answer;
-    let next = done.next;
-    let answer = plain(giving_told(giving)).with_own(own.len());
-    with_answer(answer, current_of(true, next, current.length))
+    with_answer(
+        plain(giving_told(giving)),
+        current_of(true, done.next, length),
+    )
 }
 
 // `giv`
-fn give(
-    line: &[u8],
-    call: Token,
-    current: Current,
-    own: &mut [u8],
-    scratch: &mut [u8],
-) -> Operated {
-    let bytes = data(line, call, LEN, scratch);
-    if !current.is_there || !is_end(line, bytes) {
-        return with_answer(plain(outside()), current);
-    }
-    let n = within(bytes.as_usize(), scratch);
-    let m = within(current.length, own);
-    given(current, &scratch[..n], &mut own[..m])
+fn give(current: Current, bytes: &[u8], own: &mut [u8]) -> Operated {
+    let n = within(current.length, own);
+    given(current.record, current.length, bytes, &mut own[..n])
 }
 
 pub(crate) fn answer(
-    line: &[u8],
-    call: Token,
+    asked: Asked,
     current: Current,
-    own: &mut [u8],
-    scratch: &mut [u8],
+    bytes: &[u8],
+    own: &mut [u8; 65536],
+    room: &mut [u8; 65536],
 ) -> Operated {
-    let letters = call.value;
-    match letters {
-        OPN => open(line, call, own),
-        STP => step(line, call, current, own, scratch),
-        _ => give(line, call, current, own, scratch),
+    if asked.call == OPN {
+        return open(asked, bytes, own);
     }
+    if !current.is_there || !asked.ok {
+        return with_answer(plain(outside()), current);
+    }
+    if asked.call == STP {
+        return step(current, own, room, asked.room);
+    }
+    give(current, bytes, own)
 }

@@ -2,7 +2,6 @@
 // buffer has room for the longest answer whenever a line is answered.
 
 use crate::told::Answer;
-use crate::told::OUTSIDE;
 use crate::told::Tail;
 use crate::told::Told;
 ghost use Rattle.io.specs.Counts.{Counts};
@@ -140,19 +139,12 @@ fn first_text(out: &mut [u8], at: usize, buffer: &[u8], n: usize) -> usize {
     text(out, at, &buffer[..n])
 }
 
-fn tail(
-    out: &mut [u8],
-    at: usize,
-    tail: Tail,
-    small: &[u8; 16],
-    scratch: &[u8],
-    own: &[u8],
-) -> usize {
+fn tail(out: &mut [u8], at: usize, tail: Tail, small: &[u8; 16], room: &[u8], own: &[u8]) -> usize {
     match tail {
         Tail::Nothing => at,
         Tail::Small(n) => spaced_bytes(out, at, small, n),
-        Tail::Text(n) => first_text(out, at, scratch, n),
-        Tail::Room(n) => spaced_bytes(out, at, scratch, n),
+        Tail::Text(n) => first_text(out, at, room, n),
+        Tail::Room(n) => spaced_bytes(out, at, room, n),
         Tail::Own(n) => spaced_bytes(out, at, own, n),
     }
 }
@@ -167,7 +159,7 @@ pub(crate) fn section(out: &mut [u8], at: usize, is_there: bool, buffer: &[u8], 
 }
 
 // A number as a section, where it has one.
-fn count_section(out: &mut [u8], at: usize, is_there: bool, n: u64) -> usize {
+pub(crate) fn count_section(out: &mut [u8], at: usize, is_there: bool, n: u64) -> usize {
     if !is_there {
         return at;
     }
@@ -175,22 +167,10 @@ fn count_section(out: &mut [u8], at: usize, is_there: bool, n: u64) -> usize {
     value(out, next, n)
 }
 
-pub(crate) fn answer(
-    out: &mut [u8],
-    at: usize,
-    answer: Answer,
-    scratch: &[u8],
-    own: &[u8],
-) -> usize {
-    let told = answer.told;
-    if told.number == OUTSIDE {
-        return text(out, at, b"outside");
-    }
-    let next = self::told(out, at, told);
+// NUMBER VALUES
+pub(crate) fn answer(out: &mut [u8], at: usize, answer: Answer, room: &[u8], own: &[u8]) -> usize {
+    let next = told(out, at, answer.told);
     let tail = answer.tail;
     let small = answer.small;
-    let next = self::tail(out, next, tail, &small, scratch, own);
-    let next = count_section(out, next, answer.has_steps, answer.steps as u64);
-    let next = section(out, next, answer.has_room, scratch, answer.room);
-    section(out, next, answer.has_own, own, answer.own)
+    self::tail(out, next, tail, &small, room, own)
 }

@@ -1,18 +1,11 @@
 // "Replies": each read by its own wrapper, and sector data by its length.
 use crate::data::copy;
-use crate::data::data;
-use crate::line::LEN;
-use crate::line::Token;
-use crate::line::U64;
 use crate::line::byte_at;
-use crate::line::is_end;
-use crate::line::number;
 use crate::names::CAP;
 use crate::names::CHP;
 use crate::names::FID;
 use crate::names::FIN;
 use crate::numbers::storage;
-use crate::out::within;
 use crate::told::Answer;
 use crate::told::Told;
 use crate::told::nine;
@@ -121,7 +114,8 @@ fn length(name: u64) -> usize {
     }
 }
 
-fn read_as(name: u64, bytes: &[u8]) -> Answer {
+// `chp`, `fid`, `fin`, `cap`
+pub(crate) fn read(name: u64, bytes: &[u8]) -> Answer {
     if bytes.len() != length(name) {
         return plain(outside());
     }
@@ -132,16 +126,6 @@ fn read_as(name: u64, bytes: &[u8]) -> Answer {
         CAP => capability_answer(capability(bytes)),
         _ => plain(outside()),
     }
-}
-
-// `chp`, `fid`, `fin`, `cap`
-pub(crate) fn read(line: &[u8], name: Token, scratch: &mut [u8]) -> Answer {
-    let given = data(line, name, LEN, scratch);
-    if !is_end(line, given) {
-        return plain(outside());
-    }
-    let n = within(given.as_usize(), scratch);
-    read_as(name.value, &scratch[..n])
 }
 
 // `sto`
@@ -160,20 +144,11 @@ pub(crate) fn media(bytes: &[u8]) -> Told {
     }
 }
 
-fn sectors(length: usize) -> Told {
+// `sec`
+pub(crate) fn sectors(length: usize) -> Told {
     match sector_count(length) {
         SectorAnswer::Count(count) => one(0, count.0 as u64),
         SectorAnswer::NotSectors => none(23),
         SectorAnswer::TooMany => none(24),
-    }
-}
-
-// `sec`
-pub(crate) fn size(line: &[u8], name: Token) -> Told {
-    let len = number(line, name, U64);
-    if is_end(line, len) {
-        sectors(len.as_usize())
-    } else {
-        outside()
     }
 }

@@ -2,18 +2,14 @@
 use crate::devices::Device;
 use crate::devices::device_of;
 use crate::devices::refusal;
-use crate::line::Token;
-use crate::line::U32;
-use crate::line::is_end;
-use crate::line::number;
 use crate::operations::Current;
 use crate::operations::current_of;
 use crate::operations::finished;
+use crate::out::between;
 use crate::out::within;
 use crate::told::Answer;
 use crate::told::Told;
 use crate::told::none;
-use crate::told::outside;
 use crate::told::plain;
 use crate::uploads::Upload;
 use crate::uploads::upload_of;
@@ -58,15 +54,9 @@ fn run_answer(answer: RunAnswer, beside: Beside) -> Answer {
 // A run's answer, and the operation and the device as it left them.
 fn after_run(done: UsbRun, own: usize, flash: usize) -> Ran {
     let outcome = done.answer;
-    let beside = done.beside;
-    let record = done.operation;
-    let state = done.device;
-    let answer = run_answer(outcome, beside)
-        .with_steps(done.steps)
-        .with_own(own)
-        .with_device();
-    let current = current_of(true, record, own);
-    let device = device_of(true, state, flash);
+    let answer = run_answer(outcome, done.beside).with_steps(done.steps);
+    let current = current_of(true, done.operation, own);
+    let device = device_of(true, done.device, flash);
     Ran {
         answer,
         current,
@@ -74,50 +64,28 @@ fn after_run(done: UsbRun, own: usize, flash: usize) -> Ran {
     }
 }
 
-fn operated(
+// `run`
+pub(crate) fn run(
+    budget: u32,
     current: Current,
     device: Device,
-    budget: u32,
     own: &mut [u8],
     flash: &mut [u8],
     store: &[u8],
 ) -> Ran {
     let record = current.record;
     let state = device.state;
-    let done = runner::run(record, state, flash, store, own, budget);
-    after_run(done, current.length, device.flash)
-}
-
-// `run`
-pub(crate) fn run(
-    line: &[u8],
-    name: Token,
-    current: Current,
-    device: Device,
-    own: &mut [u8],
-    flash: &mut [u8],
-    store: &[u8],
-) -> Ran {
-    let budget = number(line, name, U32);
-    if !current.is_there || !device.is_there || !is_end(line, budget) {
-        let answer = plain(outside());
-        return Ran {
-            answer,
-            current,
-            device,
-        };
-    }
     let n = within(current.length, own);
     let m = within(device.flash, flash);
-    let k = within(device.store, store);
-    operated(
-        current,
-        device,
-        budget.as_u32(),
-        &mut own[..n],
+    let done = runner::run(
+        record,
+        state,
         &mut flash[..m],
-        &store[..k],
-    )
+        between(store, 0, device.store),
+        &mut own[..n],
+        budget,
+    );
+    after_run(done, current.length, device.flash)
 }
 
 fn load_stop_told(stop: LoadStop) -> Told {
@@ -138,13 +106,9 @@ fn load_told(answer: LoadAnswer) -> Told {
 
 fn after_load(done: LoadRun, image: usize, flash: usize) -> Loaded {
     let outcome = done.answer;
-    let record = done.upload;
-    let state = done.device;
-    let answer = plain(load_told(outcome))
-        .with_steps(done.steps)
-        .with_device();
-    let upload = upload_of(true, record, image);
-    let device = device_of(true, state, flash);
+    let answer = plain(load_told(outcome)).with_steps(done.steps);
+    let upload = upload_of(true, done.upload, image);
+    let device = device_of(true, done.device, flash);
     Loaded {
         answer,
         upload,
@@ -152,48 +116,25 @@ fn after_load(done: LoadRun, image: usize, flash: usize) -> Loaded {
     }
 }
 
-fn carried(
+// `urn`
+pub(crate) fn load(
+    budget: u32,
     upload: Upload,
     device: Device,
-    budget: u32,
     image: &[u8],
     flash: &[u8],
     store: &mut [u8],
 ) -> Loaded {
     let record = upload.record;
     let state = device.state;
-    let done = run_upload(record, state, flash, store, image, budget);
+    let n = within(device.store, store);
+    let done = run_upload(
+        record,
+        state,
+        between(flash, 0, device.flash),
+        &mut store[..n],
+        between(image, 0, upload.length),
+        budget,
+    );
     after_load(done, upload.length, device.flash)
-}
-
-// `urn`
-pub(crate) fn load(
-    line: &[u8],
-    name: Token,
-    upload: Upload,
-    device: Device,
-    image: &[u8],
-    flash: &[u8],
-    store: &mut [u8],
-) -> Loaded {
-    let budget = number(line, name, U32);
-    if !upload.is_there || !device.is_there || !is_end(line, budget) {
-        let answer = plain(outside());
-        return Loaded {
-            answer,
-            upload,
-            device,
-        };
-    }
-    let n = within(upload.length, image);
-    let m = within(device.flash, flash);
-    let k = within(device.store, store);
-    carried(
-        upload,
-        device,
-        budget.as_u32(),
-        &image[..n],
-        &flash[..m],
-        &mut store[..k],
-    )
 }

@@ -1,4 +1,4 @@
-// What a line is told, by value: a number with its values, and which bytes and sections stand behind them. All of it is printed in one place.
+// What a line is told, by value: a number with its values, and which bytes stand behind them. All of it is printed in one place.
 
 // No number of document 01: the line is not of the language, or about a thing that is not there.
 pub(crate) const OUTSIDE: u64 = 1000;
@@ -89,9 +89,9 @@ pub(crate) enum Tail {
     Nothing,
     // the first bytes of `small`
     Small(usize),
-    // the first bytes of the scratch as they are: a text with a space before it
+    // the first bytes of the room as they are: a text with a space before it
     Text(usize),
-    // the first bytes of the scratch
+    // the first bytes of the room
     Room(usize),
     // the first bytes of the current operation's data
     Own(usize),
@@ -101,15 +101,8 @@ pub(crate) struct Answer {
     pub told: Told,
     pub tail: Tail,
     pub small: [u8; 16],
-    // sections: a run's steps, the first bytes of the scratch, those of the operation's data
-    pub has_steps: bool,
+    // of a run
     pub steps: u32,
-    pub has_room: bool,
-    pub room: usize,
-    pub has_own: bool,
-    pub own: usize,
-    // and those of the device
-    pub has_device: bool,
 }
 
 fn made(told: Told, tail: Tail, small: [u8; 16]) -> Answer {
@@ -117,13 +110,7 @@ fn made(told: Told, tail: Tail, small: [u8; 16]) -> Answer {
         told,
         tail,
         small,
-        has_steps: false,
         steps: 0,
-        has_room: false,
-        room: 0,
-        has_own: false,
-        own: 0,
-        has_device: false,
     }
 }
 
@@ -141,25 +128,7 @@ pub(crate) fn with_small(told: Told, small: [u8; 16], n: usize) -> Answer {
 
 impl Answer {
     pub(crate) fn with_steps(mut self, n: u32) -> Answer {
-        self.has_steps = true;
         self.steps = n;
-        self
-    }
-
-    pub(crate) fn with_room(mut self, n: usize) -> Answer {
-        self.has_room = true;
-        self.room = n;
-        self
-    }
-
-    pub(crate) fn with_own(mut self, n: usize) -> Answer {
-        self.has_own = true;
-        self.own = n;
-        self
-    }
-
-    pub(crate) fn with_device(mut self) -> Answer {
-        self.has_device = true;
         self
     }
 

@@ -1,13 +1,9 @@
 // "Uploads": the current upload, and whole and part-wise lists of transfers.
+use crate::asked::Asked;
+use crate::asked::PART;
 use crate::data::copy;
-use crate::data::data;
-use crate::data::fill;
-use crate::line::LEN;
 use crate::line::Token;
-use crate::line::U8;
-use crate::line::U16;
-use crate::line::U32;
-use crate::line::is_end;
+use crate::line::as_u16;
 use crate::line::number;
 use crate::names::UPL;
 use crate::out::between;
@@ -32,14 +28,6 @@ use maskrom::WholeStart;
 use maskrom::WholeUpload;
 use maskrom::write_area;
 use maskrom::write_area_no_crc;
-
-// the most of the current upload's image, and of an image whose list is asked for
-const IMAGE: u64 = 100000;
-
-const LISTED: u64 = 4194304;
-
-// the most of a part's size: the language's longest image
-const PART: u64 = 16777216;
 
 // more turns than any list of transfers takes
 const TURNS: u64 = 1000000000;
@@ -92,15 +80,12 @@ fn started(start: WholeStart, length: usize) -> Uploaded {
 }
 
 // `upl`
-fn start(line: &[u8], name: Token, image: &mut [u8]) -> Uploaded {
-    let area = number(line, name, U16);
-    let check = number(line, area, 1);
-    let given = data(line, check, IMAGE, image);
-    if !is_end(line, given) {
+fn start(asked: Asked, bytes: &[u8], image: &mut [u8]) -> Uploaded {
+    if !asked.ok {
         return answered(outside(), no_upload());
     }
-    let n = within(given.as_usize(), image);
-    started(begun(area.as_u16(), check.value == 1, &image[..n]), n)
+    copy(bytes, image);
+    started(begun(as_u16(asked.a), asked.b == 1, bytes), asked.len)
 }
 
 fn control_told(control: Control) -> Told {
@@ -130,40 +115,29 @@ fn step_told(step: UploadStep) -> Told {
     }
 }
 
-fn stepped(upload: Upload, image: &[u8], out: &mut [u8]) -> Uploaded {
-    let record = upload.record;
-    let done = record.step(image, out);
-    let step = done.step;
-    let answer = plain(step_told(step)).with_room(out.len());
-    let upload = upload_of(true, done.next, upload.length);
-    Uploaded { answer, upload }
-}
-
 // `ust`
-fn step(line: &[u8], name: Token, upload: Upload, image: &[u8], scratch: &mut [u8]) -> Uploaded {
-    let len = number(line, name, LEN);
-    let byte = number(line, len, U8);
-    if !upload.is_there || !is_end(line, byte) {
-        return answered(outside(), upload);
-    }
-    fill(scratch, len.as_usize(), byte.as_u8());
-    let n = within(upload.length, image);
-    let m = within(len.as_usize(), scratch);
-    stepped(upload, &image[..n], &mut scratch[..m])
+fn step(upload: Upload, image: &[u8], room: &mut [u8], len: usize) -> Uploaded {
+    let record = upload.record;
+    let n = within(len, room);
+    let done = record.step(between(image, 0, upload.length), &mut room[..n]);
+    let step = done.step;
+    answered(step_told(step), upload_of(true, done.next, upload.length))
 }
 
 pub(crate) fn answer(
-    line: &[u8],
-    name: Token,
+    asked: Asked,
     upload: Upload,
-    image: &mut [u8],
-    scratch: &mut [u8],
+    bytes: &[u8],
+    image: &mut [u8; 100000],
+    room: &mut [u8; 65536],
 ) -> Uploaded {
-    if name.value == UPL {
-        start(line, name, image)
-    } else {
-        step(line, name, upload, image, scratch)
+    if asked.call == UPL {
+        return start(asked, bytes, image);
     }
+    if !upload.is_there || !asked.ok {
+        return answered(outside(), upload);
+    }
+    step(upload, image, room, asked.room)
 }
 
 // A list of transfers: how many, and where its text ends.
@@ -239,26 +213,10 @@ fn list_answer(list: List) -> Answer {
     with_tail(one(0, list.count), Tail::Text(list.at))
 }
 
-// The list of the image in the scratch's first `n` bytes; its text takes the image's place.
-fn all_of(area: u16, is_checked: bool, n: usize, scratch: &mut [u8]) -> Answer {
-    let mut text = [0u8; 32768];
-    let n = within(n, scratch);
-    let begun = begun(area, is_checked, &scratch[..n]);
-    let list = whole_list(begun.upload, &scratch[..n], &mut text);
-    let end = within(list.at, &text);
-    copy(&text[..end], scratch);
-    list_answer(list)
-}
-
 // `all`
-pub(crate) fn all(line: &[u8], name: Token, scratch: &mut [u8]) -> Answer {
-    let area = number(line, name, U16);
-    let check = number(line, area, 1);
-    let given = data(line, check, LISTED, scratch);
-    if !is_end(line, given) {
-        return plain(outside());
-    }
-    all_of(area.as_u16(), check.value == 1, given.as_usize(), scratch)
+pub(crate) fn all(asked: Asked, bytes: &[u8], text: &mut [u8]) -> Answer {
+    let begun = begun(as_u16(asked.a), asked.b == 1, bytes);
+    list_answer(whole_list(begun.upload, bytes, text))
 }
 
 // A part-wise upload on its way: its record and list, how much of the image was taken, where the part at hand ends and whether it
@@ -285,23 +243,29 @@ fn after_part(cut: Cut, record: MaskRomOperation, list: List, n: usize) -> Cut {
     }
 }
 
+fn part_list(text: &mut [u8], list: List, step: PartStep, bytes: &[u8]) -> List {
+    match step {
+        PartStep::Taken(_) => list,
+        PartStep::WriteControl(_, control) => with_transfer(text, list, control, bytes),
+        _ => over(list),
+    }
+}
+
+fn part_taken(step: PartStep) -> usize {
+    match step {
+        PartStep::Taken(n) => n,
+        PartStep::WriteControl(n, _) => n,
+        _ => 0,
+    }
+}
+
 fn hand_over(image: &[u8], text: &mut [u8], cut: Cut) -> Cut {
     let mut out = [0u8; 4096];
     let record = cut.record;
     let done = record.part(between(image, cut.taken, cut.end), &mut out);
     let step = done.step;
-    let next = done.next;
-    let list = cut.list;
-    match step {
-        PartStep::Taken(n) => after_part(cut, next, list, n),
-        PartStep::WriteControl(n, control) => after_part(
-            cut,
-            next,
-            with_transfer(text, list, control, &out),
-            n,
-        ),
-        _ => after_part(cut, next, over(list), 0),
-    }
+    let list = part_list(text, cut.list, step, &out);
+    after_part(cut, done.next, list, part_taken(step))
 }
 
 fn close(text: &mut [u8], cut: Cut) -> Cut {
@@ -309,9 +273,8 @@ fn close(text: &mut [u8], cut: Cut) -> Cut {
     let record = cut.record;
     let done = record.close(&mut out);
     let step = done.step;
-    let next = done.next;
     let list = listed(text, cut.list, step, &out);
-    after_part(cut, next, list, 0)
+    after_part(cut, done.next, list, 0)
 }
 
 fn least(a: usize, b: usize) -> usize {
@@ -319,9 +282,9 @@ fn least(a: usize, b: usize) -> usize {
 }
 
 // The next part of the pass, or the first of the next pass, cut down to what is left of the image.
-fn next_part(line: &[u8], first: Token, count: u64, length: usize, cut: Cut) -> Cut {
+fn next_part(line: &[u8], first: usize, count: u64, length: usize, cut: Cut) -> Cut {
     let is_first = cut.parts == count;
-    let place = if is_first { first.at } else { cut.place };
+    let place = if is_first { first } else { cut.place };
     let parts = if is_first { 0 } else { cut.parts };
     let before = Token {
         value: 0,
@@ -345,7 +308,7 @@ fn next_part(line: &[u8], first: Token, count: u64, length: usize, cut: Cut) -> 
     }
 }
 
-fn next_cut(line: &[u8], first: Token, count: u64, image: &[u8], text: &mut [u8], cut: Cut) -> Cut {
+fn next_cut(line: &[u8], first: usize, count: u64, image: &[u8], text: &mut [u8], cut: Cut) -> Cut {
     if cut.is_fresh || cut.taken < cut.end {
         return hand_over(image, text, cut);
     }
@@ -355,7 +318,7 @@ fn next_cut(line: &[u8], first: Token, count: u64, image: &[u8], text: &mut [u8]
     next_part(line, first, count, image.len(), cut)
 }
 
-fn new_cut(area: u16, is_checked: bool, first: Token) -> Cut {
+fn new_cut(area: u16, is_checked: bool, first: usize) -> Cut {
     let record = if is_checked {
         MaskRomOperation::new(area)
     } else {
@@ -369,13 +332,13 @@ fn new_cut(area: u16, is_checked: bool, first: Token) -> Cut {
         end: 0,
         is_fresh: false,
         parts: 0,
-        place: first.at,
+        place: first,
     }
 }
 
 fn cut_list(
     line: &[u8],
-    first: Token,
+    first: usize,
     count: u64,
     image: &[u8],
     text: &mut [u8],
@@ -390,47 +353,8 @@ fn cut_list(
     cut.list
 }
 
-// Past the size of a part. The value says whether some size was above 0.
-fn size(line: &[u8], before: Token) -> Token {
-    let size = number(line, before, PART);
-    Token {
-        value: if size.value > 0 { 1 } else { before.value },
-        at: size.at,
-        ok: size.ok,
-    }
-}
-
-fn sizes(line: &[u8], count: Token) -> Token {
-    let mut last = Token {
-        value: 0,
-        at: count.at,
-        ok: count.ok,
-    };
-    for _ in 0..count.value {
-        last = size(line, last);
-    }
-    last
-}
-
-fn cut_of(line: &[u8], count: Token, start: Cut, n: usize, scratch: &mut [u8]) -> Answer {
-    let mut text = [0u8; 32768];
-    let n = within(n, scratch);
-    let list = cut_list(line, count, count.value, &scratch[..n], &mut text, start);
-    let end = within(list.at, &text);
-    copy(&text[..end], scratch);
-    list_answer(list)
-}
-
 // `cut`
-pub(crate) fn cut_up(line: &[u8], name: Token, scratch: &mut [u8]) -> Answer {
-    let area = number(line, name, U16);
-    let check = number(line, area, 1);
-    let count = number(line, check, 2047);
-    let last = sizes(line, count);
-    let start = new_cut(area.as_u16(), check.value == 1, count);
-    let given = data(line, last, LISTED, scratch);
-    if last.value == 0 || !is_end(line, given) {
-        return plain(outside());
-    }
-    cut_of(line, count, start, given.as_usize(), scratch)
+pub(crate) fn cut_up(line: &[u8], asked: Asked, bytes: &[u8], text: &mut [u8]) -> Answer {
+    let start = new_cut(as_u16(asked.a), asked.b == 1, asked.place);
+    list_answer(cut_list(line, asked.place, asked.c, bytes, text, start))
 }

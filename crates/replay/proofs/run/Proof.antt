@@ -5,16 +5,16 @@ use Rattle.replay.proofs.run.Statement.{statement}
 use Rattle.replay.proofs.run.Tie as tie
 
 abbrev Inv-loop : tie.InvT-loop
-Inv-loop block₀ line₀ out₀ scratch₀ image₀ own₀ flash₀ store₀ printed₀ input₀ turns₀ block line out scratch image own flash store printed input turns =
+Inv-loop block₀ line₀ out₀ given₀ room₀ image₀ own₀ flash₀ store₀ world₀ input₀ turns₀ block line out given room image own flash store world input turns =
     Unit {0}
 
 abbrev μ-loop : tie.MeasureT-loop
-μ-loop block₀ line₀ out₀ scratch₀ image₀ own₀ flash₀ store₀ printed₀ input₀ turns₀ block line out scratch image own flash store printed input turns =
+μ-loop block₀ line₀ out₀ given₀ room₀ image₀ own₀ flash₀ store₀ world₀ input₀ turns₀ block line out given room image own flash store world input turns =
     turns
 
 pub run-spec : {M : Type 1} → statement M
 run-spec =
     tie.close
     (tie.spec Inv-loop μ-loop (λ c κs. search needs) (λ c κs. search needs) (λ c κs. search needs) (λ c. search needs)
-    (λ c κs. search needs) (λ c κs. search needs) (λ c. search needs) (λ c. search needs) (λ c. search needs)
-    (λ c. search needs) (λ c κs. search needs) (λ c. search needs))
+    (λ c κs. search needs) (λ c κs. search needs) (λ c κs. search needs) (λ c κs. search needs) (λ c. search needs)
+    (λ c. search needs) (λ c. search needs) (λ c. search needs) (λ c κs. search needs) (λ c. search needs))

@@ -2,14 +2,14 @@
 -- Assumes nothing.
 use Prim.Native.Nat.{_-_}
 use borrow.Author.Needs.{needs}
-use Rattle.replay.proofs.uploads.sizes.Statement.{statement}
-use Rattle.replay.proofs.uploads.sizes.Tie as tie
+use Rattle.replay.proofs.asked.sizes.Statement.{statement}
+use Rattle.replay.proofs.asked.sizes.Tie as tie
 
 abbrev Inv-loop : tie.InvT-loop
-Inv-loop line last₀ counter₀ end last counter = Unit {0}
+Inv-loop line count last₀ counter₀ last counter = Unit {0}
 
 abbrev μ-loop : tie.MeasureT-loop
-μ-loop line last₀ counter₀ end last counter = end - counter
+μ-loop line count last₀ counter₀ last counter = count - counter
 
 pub sizes-spec : {M : Type 1} → statement M
 sizes-spec =
