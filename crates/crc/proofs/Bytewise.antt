@@ -6,6 +6,7 @@ use mathlib.Core.List.{List, [], _∷_}
 use native.Mathlib.Omega.{arith}
 use native.Mathlib.Nat.{add-zero, zero-add, add-suc, suc-add, le-of-suc-le-suc, not-suc-le-zero}
 use lib.ListN.{length, getD}
+use lib.Seq.{ext-getD}
 use lib.Pow.{split}
 use lib.Bits.{bitXor, xor-shifted, xor-zero-l, xor-zero-r, xor-comm}
 use Rattle.crc.specs.Check.{byteStep, bitsStep, bitStep}
@@ -27,6 +28,10 @@ pub rows-length : (f : ℕ → ℕ) (i n : ℕ) → length (rows f i n) ≡ n
 unfolding rows
 rows-length f i zero = refl
 rows-length f i (suc n) = ap suc (rows-length f (suc i) n)
+
+-- a list is its elements
+pub listed : (l : List ℕ) → rows (λ (i : ℕ). getD l i 0) 0 (length l) ≡ l
+listed l = ext-getD 0 _ l (rows-length _ 0 (length l)) (λ k h. rows-at _ (length l) k (rw (rows-length) at h))
 
 -- two functions with the same rows agree: a fact on n cases is one computed test
 pub rows-same : (f g : ℕ → ℕ) (n : ℕ) → rows f 0 n ≡ rows g 0 n → (k : ℕ) → k < n → f k ≡ g k

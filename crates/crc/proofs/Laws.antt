@@ -1,12 +1,12 @@
 -- What crates above cite: append, range, linearity over xor, and the check value.
 -- Assumes nothing.
-use Prim.Native.Nat.{ℕ, zero, suc, _+_, _*_, _/_, _%_, _^_, _≤_, _<_}
+use Prim.Native.Nat.{ℕ, zero, suc, _+_, _-_, _*_, _/_, _%_, _^_, _≤_, _<_}
 use mathlib.Core.Path.{_≡_, refl, ap, sym, _∙_}
 use mathlib.Core.List.{List, [], _∷_, _++_}
 use native.Mathlib.Numerals.{add-one}
 use native.Mathlib.Omega.{arith}
 use lib.ListN.{length, getD, take, drop, take-append-drop, drop-of-length-le}
-use lib.Seq.{drop-cons}
+use lib.Seq.{drop-cons, drop-drop}
 use lib.Bits.{bitXor, xor-lt}
 use Rattle.crc.specs.Check.{polynomial, bitStep, bitsStep, byteStep, crcOver, check}
 use Rattle.crc.proofs.Linear.{byte-linear}
@@ -49,6 +49,14 @@ step-lt c b h = over-lt c (b ∷ []) h
 pub over-next : (c i : ℕ) (bs : List ℕ) → i < length bs → crcOver c (drop i bs) ≡ crcOver (byteStep c (getD bs i 0)) (drop (i + 1) bs)
 unfolding crcOver
 over-next c i bs h = ap (crcOver c) (drop-cons bs i 0 h) ∙ ap (λ (k : ℕ). crcOver (byteStep c (getD bs i 0)) (drop k bs)) (sym (add-one i))
+
+-- a turn of a loop takes the next eight
+pub next-eight : (c i : ℕ) (bs : List ℕ) → crcOver (crcOver c (take (i + 8 - i) (drop i bs))) (drop (i + 8) bs) ≡ crcOver c (drop i bs)
+next-eight c i bs =
+    let eight : i + 8 - i ≡ 8 = omega arith in
+    ap (λ (k : ℕ). crcOver (crcOver c (take k (drop i bs))) (drop (i + 8) bs)) eight
+    ∙ ap (crcOver (crcOver c (take 8 (drop i bs)))) (sym (drop-drop 8 i bs))
+    ∙ over-split c 8 (drop i bs)
 
 -- past the end nothing is left
 pub over-past : (c i : ℕ) (bs : List ℕ) → length bs ≤ i → crcOver c (drop i bs) ≡ c

@@ -4,4 +4,5 @@ pub mod Linear
 pub mod Bytewise
 pub mod Closed
 pub mod Slicing
+pub mod Words
 pub mod Laws

@@ -5,14 +5,14 @@ use mathlib.Core.Path.{_≡_, refl, ap, ap₂, sym, subst, _∙_}
 use mathlib.Core.List.{List, [], _∷_, _++_, map}
 use native.Mathlib.Omega.{arith}
 use lib.ListN.{length, getD, length-map, List·getD-append, List·getD-map}
-use lib.Seq.{getD-append-add, ext-getD}
+use lib.Seq.{getD-append-add}
 use lib.Bits.{bitXor, xor-lt, xor-zero-l, xor-zero-r, xor-comm}
 use Rattle.wire.specs.Bytes.{AreBytes}
 use Rattle.crc.specs.Check.{bitStep, bitsStep, byteStep, crcOver}
 use Rattle.crc.specs.Table.{rows, entry, crcTable, after, tables, sliceTables}
 use Rattle.crc.proofs.Xor.{xor-assoc, xor-twice}
 use Rattle.crc.proofs.Linear.{byte-linear}
-use Rattle.crc.proofs.Bytewise.{rows-at, rows-length, high-half, meets-itself, bytewise}
+use Rattle.crc.proofs.Bytewise.{rows-at, rows-length, listed, high-half, meets-itself, bytewise}
 
 after-linear : (n a c : ℕ) → after n (bitXor a c) ≡ bitXor (after n a) (after n c)
 unfolding after
@@ -101,10 +101,6 @@ tables-at (suc n) (suc k) i t e hk hi =
 pub slice-at : (k i : ℕ) → k < 8 → i < 256 → getD sliceTables (k * 256 + i) 0 ≡ after k (entry i)
 unfolding sliceTables crcTable
 slice-at k i hk hi = tables-at 8 k i (rows entry 0 256) (rows-length entry 0 256) hk hi ∙ ap (after k) (rows-at entry 256 i hi)
-
--- a list is its elements
-listed : (l : List ℕ) → rows (λ (i : ℕ). getD l i 0) 0 (length l) ≡ l
-listed l = ext-getD 0 _ l (rows-length _ 0 (length l)) (λ k h. rows-at _ (length l) k (rw (rows-length) at h))
 
 -- eight bytes, each by its table
 pub by-eight : (c : ℕ) (p : List ℕ) → c < 2 ^ 16 → AreBytes p → length p ≡ 8

@@ -3,15 +3,15 @@ mod tables;
 
 use tables::TABLES;
 ghost use mathlib.Core.Path.{_≡_};
-ghost use Prim.Native.Nat.{_<_};
+ghost use Prim.Native.Nat.{ℕ, _≤_, _<_};
 ghost use lib.ListN.{length};
-ghost use Rattle.crc.specs.Check.{byteStep, crcOver, check};
+ghost use Rattle.crc.specs.Check.{bitsStep, byteStep, crcOver, check};
 ghost use Rattle.crc.specs.Table.{entry, crcTable, after, sliceTables};
 
 const START: u16 = 0xFFFF;
 
 // Below about this many bytes building the eight tables costs more than they save (docs/DECISIONS.md).
-const SHORT: usize = 64;
+const SHORT: usize = 24;
 
 // Entry i is what eight zero bits make of the register i * 256.
 const TABLE: [u16; 256] = [
@@ -361,7 +361,7 @@ fn eight_step(t: &[u16; 2048], crc: u16, part: &[u8]) -> u16
     a ^ (b ^ (c ^ (d ^ (e ^ (f ^ (g ^ h))))))
 }
 
-fn update_by_eight(crc: u16, bytes: &[u8]) -> u16
+pub fn update_by_eight(crc: u16, bytes: &[u8]) -> u16
     ensures { λ r. ⌜ r ≡ crcOver crc (now (bytes .entry)) ⌝ }
 {
     let t = slice_tables();
@@ -376,6 +376,72 @@ fn update_by_eight(crc: u16, bytes: &[u8]) -> u16
     update_bytewise(c, &bytes[n..])
 }
 
+// The 64 bits of eight bytes.
+fn word_of(part: &[u8]) -> u64
+    requires { ⌜ length (now part) ≡ 8 ⌝ }
+    ensures { λ r. ⌜ ((c : ℕ) → bitsStep c 64 r ≡ crcOver c (now (part .entry))) ⌝ }
+{
+    let two = (part[0] as u64) * 256 + (part[1] as u64);
+    let three = two * 256 + (part[2] as u64);
+    let four = three * 256 + (part[3] as u64);
+    let five = four * 256 + (part[4] as u64);
+    let six = five * 256 + (part[5] as u64);
+    let seven = six * 256 + (part[6] as u64);
+    seven * 256 + (part[7] as u64)
+}
+
+// 64 bits for which the register is the same as for those of `before` and then those of `word`: before times x^64, which is x^48 + x^20 + 1.
+fn fold(before: u64, word: u64) -> u64
+    ensures { λ r. ⌜ bitsStep 0 64 r ≡ bitsStep (bitsStep 0 64 before) 64 word ⌝ }
+{
+    let once = (before / 0x1_0000) ^ (before / 0x1000_0000_0000);
+    let twice = (once / 0x1_0000) ^ (once / 0x1000_0000_0000);
+    let all = before ^ (once ^ (twice ^ (twice / 0x1_0000)));
+    let moved = ((all % 0x1_0000) * 0x1_0000_0000_0000)
+        ^ (((all % 0x1000_0000_0000) * 0x10_0000) ^ all);
+    moved ^ word
+}
+
+// The register after 64 bits.
+fn settle(bits: u64) -> u16
+    ensures { λ r. ⌜ r ≡ bitsStep 0 64 bits ⌝ }
+{
+    let seven = bits / 256;
+    let six = seven / 256;
+    let five = six / 256;
+    let four = five / 256;
+    let three = four / 256;
+    let two = three / 256;
+    let one = two / 256;
+    let bytes = [
+        one as u8,
+        (two % 256) as u8,
+        (three % 256) as u8,
+        (four % 256) as u8,
+        (five % 256) as u8,
+        (six % 256) as u8,
+        (seven % 256) as u8,
+        (bits % 256) as u8,
+    ];
+    update_bytewise(0, &bytes)
+}
+
+// Eight bytes and more. The register goes into the first two of them.
+fn update_by_words(crc: u16, bytes: &[u8]) -> u16
+    requires { ⌜ 8 ≤ length (now bytes) ⌝ }
+    ensures { λ r. ⌜ r ≡ crcOver crc (now (bytes .entry)) ⌝ }
+{
+    let n = bytes.len() / 8 * 8;
+    let mut bits = ((crc as u64) * 0x1_0000_0000_0000) ^ word_of(&bytes[..8]);
+    let mut i = 8;
+    while i < n {
+        let e = i + 8;
+        bits = fold(bits, word_of(&bytes[i..e]));
+        i = e;
+    }
+    update_bytewise(settle(bits), &bytes[n..])
+}
+
 // The register after all of `bytes`.
 pub fn update(crc: u16, bytes: &[u8]) -> u16
     ensures { λ r. ⌜ r ≡ crcOver crc (now (bytes .entry)) ⌝ }
@@ -386,7 +452,7 @@ pub fn update(crc: u16, bytes: &[u8]) -> u16
     if length < SHORT {
         return update_bytewise(crc, all);
     }
-    update_by_eight(crc, all)
+    update_by_words(crc, all)
 }
 
 // The check of a whole message.

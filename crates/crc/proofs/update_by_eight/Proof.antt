@@ -9,7 +9,7 @@ use lib.ListN.{length, take, drop, length-take, length-drop}
 use lib.Seq.{drop-drop, take-all}
 use borrow.Author.Needs.{needs}
 use Rattle.crc.specs.Check.{crcOver}
-use Rattle.crc.proofs.Laws.{over-split}
+use Rattle.crc.proofs.Laws.{next-eight}
 use Rattle.crc.proofs.update_by_eight.Statement.{statement}
 use Rattle.crc.proofs.update_by_eight.Tie as tie
 
@@ -18,14 +18,6 @@ Inv-loop crc bytes t n c₀ i₀ c i = (i ≤ n) × (i % 8 ≡ 0) × (crcOver c 
 
 abbrev μ-loop : tie.MeasureT-loop
 μ-loop crc bytes t n c₀ i₀ c i = n - i
-
--- a turn takes the next eight
-turn : (c i : ℕ) (bs : List ℕ) → crcOver (crcOver c (take (i + 8 - i) (drop i bs))) (drop (i + 8) bs) ≡ crcOver c (drop i bs)
-turn c i bs =
-    let eight : i + 8 - i ≡ 8 = omega arith in
-    ap (λ (k : ℕ). crcOver (crcOver c (take k (drop i bs))) (drop (i + 8) bs)) eight
-    ∙ ap (crcOver (crcOver c (take 8 (drop i bs)))) (sym (drop-drop 8 i bs))
-    ∙ over-split c 8 (drop i bs)
 
 step-requires : tie.Need-eight-step-requires Inv-loop μ-loop
 step-requires c κs = (c .before .before .before .before .slice-tables .ensures, simp (length-take, length-drop) (omega arith))
@@ -36,7 +28,7 @@ again c =
     let bs = now (c .before .before .before .before .before .before .before .args .bytes) in (
       omega arith,
       omega arith,
-      ap (λ (r : ℕ). crcOver r (drop (l .i + 8) bs)) (c .eight-step .ensures) ∙ turn (l .c) (l .i) bs ∙ l .inv .2,
+      ap (λ (r : ℕ). crcOver r (drop (l .i + 8) bs)) (c .eight-step .ensures) ∙ next-eight (l .c) (l .i) bs ∙ l .inv .2,
     )
 
 returns : tie.Need-returns Inv-loop μ-loop
