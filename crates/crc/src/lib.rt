@@ -1,17 +1,14 @@
-// CRC-16/IBM-3740: a byte at a time, without a table or by one of 256 entries, or eight bytes at a time by eight of them.
-mod tables;
-
-use tables::TABLES;
+// CRC-16/IBM-3740: eight bytes at a time as one number, a byte at a time, or a byte at a time by a table of 256 entries.
 ghost use mathlib.Core.Path.{_≡_};
 ghost use Prim.Native.Nat.{ℕ, _≤_, _<_};
 ghost use lib.ListN.{length};
 ghost use Rattle.crc.specs.Check.{bitsStep, byteStep, crcOver, check};
-ghost use Rattle.crc.specs.Table.{entry, crcTable, after, sliceTables};
+ghost use Rattle.crc.specs.Table.{crcTable};
 
 const START: u16 = 0xFFFF;
 
-// Below about this many bytes building the eight tables costs more than they save (docs/DECISIONS.md).
-const SHORT: usize = 24;
+// Below this many bytes going byte by byte is as fast (docs/DECISIONS.md).
+const SHORT: usize = 16;
 
 // Entry i is what eight zero bits make of the register i * 256.
 const TABLE: [u16; 256] = [
@@ -328,54 +325,6 @@ pub fn update_bytewise(crc: u16, bytes: &[u8]) -> u16
     c as u16
 }
 
-// A function of its own, so that no goal prints 2,048 entries.
-fn slice_tables() -> [u16; 2048]
-    ensures { λ r. ⌜ r ≡ sliceTables ⌝ }
-{
-    TABLES
-}
-
-// What a byte adds by itself, `zeros` bytes before the end.
-fn entry_after(t: &[u16; 2048], zeros: usize, byte: u8) -> u16
-    requires { ⌜ (now t ≡ sliceTables) × (zeros < 8) ⌝ }
-    ensures { λ r. ⌜ r ≡ after zeros (entry byte) ⌝ }
-{
-    t[zeros * 256 + (byte as usize)]
-}
-
-// Eight bytes at once: each adds by itself, and the register goes into the first two. Those two come last, being all that a turn waits for.
-fn eight_step(t: &[u16; 2048], crc: u16, part: &[u8]) -> u16
-    requires { ⌜ (now t ≡ sliceTables) × (length (now part) ≡ 8) ⌝ }
-    ensures { λ r. ⌜ r ≡ crcOver crc (now (part .entry)) ⌝ }
-{
-    let c = entry_after(t, 5, part[2]);
-    let d = entry_after(t, 4, part[3]);
-    let e = entry_after(t, 3, part[4]);
-    let f = entry_after(t, 2, part[5]);
-    let g = entry_after(t, 1, part[6]);
-    let h = entry_after(t, 0, part[7]);
-    let first = ((crc / 256) as u8) ^ part[0];
-    let second = ((crc % 256) as u8) ^ part[1];
-    let a = entry_after(t, 7, first);
-    let b = entry_after(t, 6, second);
-    a ^ (b ^ (c ^ (d ^ (e ^ (f ^ (g ^ h))))))
-}
-
-pub fn update_by_eight(crc: u16, bytes: &[u8]) -> u16
-    ensures { λ r. ⌜ r ≡ crcOver crc (now (bytes .entry)) ⌝ }
-{
-    let t = slice_tables();
-    let n = bytes.len() / 8 * 8;
-    let mut c = crc;
-    let mut i = 0;
-    while i < n {
-        let e = i + 8;
-        c = eight_step(&t, c, &bytes[i..e]);
-        i = e;
-    }
-    update_bytewise(c, &bytes[n..])
-}
-
 // The 64 bits of eight bytes.
 fn word_of(part: &[u8]) -> u64
     requires { ⌜ length (now part) ≡ 8 ⌝ }
@@ -426,7 +375,7 @@ fn settle(bits: u64) -> u16
     update_bytewise(0, &bytes)
 }
 
-// Eight bytes and more. The register goes into the first two of them.
+// Eight bytes at a time as one number; the register goes into the first two of them.
 fn update_by_words(crc: u16, bytes: &[u8]) -> u16
     requires { ⌜ 8 ≤ length (now bytes) ⌝ }
     ensures { λ r. ⌜ r ≡ crcOver crc (now (bytes .entry)) ⌝ }

@@ -40,7 +40,7 @@ again c =
       omega arith,
       omega arith,
       ap (λ (r : ℕ). crcOver r (drop (l .i + 8) bs)) (c .fold .ensures ∙ c .before .word-of2 .ensures (bitsStep 0 64 (l .bits)))
-      ∙ next-eight (bitsStep 0 64 (l .bits)) (l .i) bs ∙ l .inv .3,
+          ∙ next-eight (bitsStep 0 64 (l .bits)) (l .i) bs ∙ l .inv .3,
     )
 
 returns : tie.Need-returns Inv-loop μ-loop

@@ -245,9 +245,12 @@ pub fn all(scale: Scale) -> Vec<Case> {
     let bench = Rc::new(RefCell::new(Bench { mock: original::device(flash.clone()), flash }));
     let mut cases: Vec<Case> =
         [scale.image, 1, 8, 64, 512].map(|n| check(&image, n, proved::update, "")).into();
-    for (update, form) in
-        [(proved::update_bytewise as Update, ", byte-wise"), (proved::update_by_table, ", by the table")]
-    {
+    let forms: [(Update, &str); 3] = [
+        (proved::update_bytewise, ", byte-wise"),
+        (proved::update_by_table, ", by the table"),
+        (proved::update_by_eight, ", by eight tables"),
+    ];
+    for (update, form) in forms {
         cases.extend([scale.image, 1, 8, 64].map(|n| check(&image, n, update, form)));
     }
     for checked in [true, false] {

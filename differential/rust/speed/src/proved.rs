@@ -5,6 +5,7 @@
 unsafe extern "C" {
     fn otterarch_crc_update(crc: u32, bytes: *const u8, length: usize) -> u16;
     fn otterarch_crc_update_bytewise(crc: u32, bytes: *const u8, length: usize) -> u16;
+    fn otterarch_crc_update_by_eight(crc: u32, bytes: *const u8, length: usize) -> u16;
     fn otterarch_crc_update_by_table(crc: u32, bytes: *const u8, length: usize) -> u16;
     fn otterarch_upload_whole(
         area: u32,
@@ -46,6 +47,10 @@ pub fn update(crc: u16, bytes: &[u8]) -> u16 {
 
 pub fn update_bytewise(crc: u16, bytes: &[u8]) -> u16 {
     unsafe { otterarch_crc_update_bytewise(crc.into(), bytes.as_ptr(), bytes.len()) }
+}
+
+pub fn update_by_eight(crc: u16, bytes: &[u8]) -> u16 {
+    unsafe { otterarch_crc_update_by_eight(crc.into(), bytes.as_ptr(), bytes.len()) }
 }
 
 pub fn update_by_table(crc: u16, bytes: &[u8]) -> u16 {

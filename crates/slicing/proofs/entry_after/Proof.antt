@@ -6,9 +6,9 @@ use mathlib.Core.List.{List}
 use native.Mathlib.Omega.{arith}
 use lib.ListN.{getD}
 use borrow.Author.Needs.{needs}
-use Rattle.crc.proofs.Slicing.{slice-at}
-use Rattle.crc.proofs.entry_after.Statement.{statement}
-use Rattle.crc.proofs.entry_after.Tie as tie
+use Rattle.slicing.proofs.Slicing.{slice-at}
+use Rattle.slicing.proofs.entry_after.Statement.{statement}
+use Rattle.slicing.proofs.entry_after.Tie as tie
 
 returns : tie.Need-returns
 returns c =

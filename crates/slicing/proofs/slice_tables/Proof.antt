@@ -1,10 +1,11 @@
 -- The constant is the computed list: the rule of each table, shown once over all 2,048 entries.
 -- Assumes nothing.
 use mathlib.Core.Path.{refl}
 use Rattle.crc.specs.Check.{byteStep, bitsStep, bitStep}
-use Rattle.crc.specs.Table.{rows, entry, crcTable, after, tables, sliceTables}
-use Rattle.crc.proofs.slice_tables.Statement.{statement}
-use Rattle.crc.proofs.slice_tables.Tie as tie
+use Rattle.crc.specs.Table.{rows, entry, crcTable}
+use Rattle.slicing.specs.Tables.{after, tables, sliceTables}
+use Rattle.slicing.proofs.slice_tables.Statement.{statement}
+use Rattle.slicing.proofs.slice_tables.Tie as tie
 
 returns : tie.Need-returns
 unfolding sliceTables tables after crcTable rows entry byteStep bitsStep bitStep

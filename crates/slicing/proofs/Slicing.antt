@@ -8,11 +8,12 @@ use lib.ListN.{length, getD, length-map, List·getD-append, List·getD-map}
 use lib.Seq.{getD-append-add}
 use lib.Bits.{bitXor, xor-lt, xor-zero-l, xor-zero-r, xor-comm}
 use Rattle.wire.specs.Bytes.{AreBytes}
 use Rattle.crc.specs.Check.{bitStep, bitsStep, byteStep, crcOver}
-use Rattle.crc.specs.Table.{rows, entry, crcTable, after, tables, sliceTables}
+use Rattle.crc.specs.Table.{rows, entry, crcTable}
+use Rattle.slicing.specs.Tables.{after, tables, sliceTables}
 use Rattle.crc.proofs.Xor.{xor-assoc, xor-twice}
 use Rattle.crc.proofs.Linear.{byte-linear}
 use Rattle.crc.proofs.Bytewise.{rows-at, rows-length, listed, high-half, meets-itself, bytewise}
 
 after-linear : (n a c : ℕ) → after n (bitXor a c) ≡ bitXor (after n a) (after n c)
 unfolding after

@@ -8,10 +8,10 @@ use denote.Ref.{now}
 use lib.ListN.{length, take, drop, length-take, length-drop}
 use lib.Seq.{drop-drop, take-all}
 use borrow.Author.Needs.{needs}
 use Rattle.crc.specs.Check.{crcOver}
 use Rattle.crc.proofs.Laws.{next-eight}
-use Rattle.crc.proofs.update_by_eight.Statement.{statement}
-use Rattle.crc.proofs.update_by_eight.Tie as tie
+use Rattle.slicing.proofs.update_by_eight.Statement.{statement}
+use Rattle.slicing.proofs.update_by_eight.Tie as tie
 
 abbrev Inv-loop : tie.InvT-loop
 Inv-loop crc bytes t n c₀ i₀ c i = (i ≤ n) × (i % 8 ≡ 0) × (crcOver c (drop i bytes) ≡ crcOver crc bytes)

@@ -3,9 +3,9 @@
 use native.Mathlib.Omega.{arith}
 use denote.Ref.{now}
 use borrow.Author.Needs.{needs}
-use Rattle.crc.proofs.Slicing.{by-eight}
-use Rattle.crc.proofs.eight_step.Statement.{statement}
-use Rattle.crc.proofs.eight_step.Tie as tie
+use Rattle.slicing.proofs.Slicing.{by-eight}
+use Rattle.slicing.proofs.eight_step.Statement.{statement}
+use Rattle.slicing.proofs.eight_step.Tie as tie
 
 returns : tie.Need-returns
 returns c =

@@ -1,0 +1,2 @@
+-- `Tables` says what the eight tables of eight bytes at once hold.
+pub mod Tables
