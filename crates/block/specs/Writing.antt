@@ -5,7 +5,7 @@ use mathlib.Core.Path.{_≡_}
 use mathlib.Core.List.{List, [], _∷_}
 use lib.Dec.{ltb}
 use Rattle.wire.specs.Told.{Told, given, refused}
-use Rattle.wire.specs.Rules.{pick, rule, unless}
+use Rattle.wire.specs.Rules.{Rule, pick, rule, unless}
 use Rattle.wire.specs.Bytes.{front}
 use Rattle.block.specs.declared.output.Written.{Written}
 use Rattle.block.specs.declared.output.Written.the-variants.{Bytes, TooShort}
@@ -19,10 +19,14 @@ pub record Writing : Type 0 where
 abbrev pub tooShort : ℕ
 tooShort = 20
 
+-- the output has `room` bytes where `wanted` are needed
+abbrev pub roomRule : ℕ → ℕ → Rule
+roomRule room wanted = rule (ltb room wanted) tooShort []
+
 -- a block of `whole` bytes, of which `block` is written, into a buffer of `room` bytes
 unfoldable pub writing : ℕ → List ℕ → ℕ → Writing
 writing whole block room =
-    record { told = unless (rule (ltb room whole) tooShort [] ∷ []) (given whole); sent = pick (ltb room whole) [] block }
+    record { told = unless (roomRule room whole ∷ []) (given whole); sent = pick (ltb room whole) [] block }
 
 unfoldable pub writtenTold : Written → Told ℕ
 writtenTold (Bytes n) = given n

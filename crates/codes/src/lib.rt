@@ -1,6 +1,7 @@
 // The enums of the protocol that have a number: each is written as its number, and a number is read as the value whose number it is.
 // The names are the Rust's.
 ghost use mathlib.Core.Path.{_≡_};
+ghost use Rattle.wire.specs.Told as told;
 ghost use Rattle.codes.specs.Numbers.{codeNumber, directionNumber, statusNumber, resetNumber, storageNumber};
 ghost use Rattle.codes.specs.Reading.{codeOf, codeReadTold, directionOf, directionReadTold, statusOf, statusReadTold, resetOf, resetReadTold, storageOf};
 
@@ -14,6 +15,18 @@ pub enum Direction {
 pub enum DirectionRead {
     Known(Direction),
     Unknown(u8),
+}
+
+impl DirectionRead {
+    // The document's number, 0 where the byte is a direction.
+    pub fn number(self) -> u8
+        ensures { λ r. ⌜ r ≡ told.number (directionReadTold self) ⌝ }
+    {
+        match self {
+            DirectionRead::Known(_) => 0,
+            DirectionRead::Unknown(_) => 3,
+        }
+    }
 }
 
 impl Direction {
@@ -72,6 +85,18 @@ pub enum CommandCode {
 pub enum CodeRead {
     Known(CommandCode),
     Unknown(u8),
+}
+
+impl CodeRead {
+    // The document's number, 0 where the byte is a code.
+    pub fn number(self) -> u8
+        ensures { λ r. ⌜ r ≡ told.number (codeReadTold self) ⌝ }
+    {
+        match self {
+            CodeRead::Known(_) => 0,
+            CodeRead::Unknown(_) => 4,
+        }
+    }
 }
 
 impl CommandCode {
@@ -157,6 +182,18 @@ pub enum StatusRead {
     Unknown(u8),
 }
 
+impl StatusRead {
+    // The document's number, 0 where the byte is a status.
+    pub fn number(self) -> u8
+        ensures { λ r. ⌜ r ≡ told.number (statusReadTold self) ⌝ }
+    {
+        match self {
+            StatusRead::Known(_) => 0,
+            StatusRead::Unknown(_) => 7,
+        }
+    }
+}
+
 impl Status {
     pub fn number(self) -> u8
         ensures { λ r. ⌜ r ≡ statusNumber self ⌝ }
@@ -191,6 +228,18 @@ pub enum ResetOpcode {
 pub enum ResetRead {
     Known(ResetOpcode),
     Unknown(u8),
+}
+
+impl ResetRead {
+    // The document's number, 0 where the byte is an opcode.
+    pub fn number(self) -> u8
+        ensures { λ r. ⌜ r ≡ told.number (resetReadTold self) ⌝ }
+    {
+        match self {
+            ResetRead::Known(_) => 0,
+            ResetRead::Unknown(_) => 52,
+        }
+    }
 }
 
 impl ResetOpcode {

@@ -19,7 +19,8 @@ use Rattle.protocol.specs.declared.CommandParse.{CommandParse}
 use Rattle.protocol.specs.declared.CommandAnswer.the-variants.{Block, Refused}
 use Rattle.protocol.specs.declared.CommandBlockParseError.the-variants.{InvalidSignature, UnknownCommandCode, UnknownFlags, InvalidLength}
 use Rattle.protocol.specs.CommandBytes.{blockOf, readCommand}
-use Rattle.protocol.specs.CommandMeets.{commandErrorNumber, commandErrorValues, commandTold, parsed, CommandMeets}
+use Rattle.protocol.specs.CommandMeets.{commandErrorNumber, commandErrorValues, commandTold, CommandMeets}
+use Rattle.protocol.specs.Code.{parsed}
 
 -- the block, once its length and signature are right
 unfoldable pub readFields : List ℕ → Told CommandBlock

@@ -25,14 +25,8 @@ use Rattle.block.proofs.Rewritten.{low-rewritten, high-rewritten}
 use Rattle.block.proofs.Given.{rule-met, first-given}
 use Rattle.protocol.specs.declared.CommandBlock.{CommandBlock}
 use Rattle.protocol.specs.CommandBytes.{commandBytes, blockOf, readCommand}
+pub use Rattle.protocol.specs.CommandBytes.{BlockFits}
 use Rattle.protocol.proofs.Reading.{readFields, read-signed}
-
--- numbers that the fields of several bytes can hold
-pub record BlockFits (b : CommandBlock) : Type 0 where
-  pub tag : b .tag < 256 ^ 4
-  pub transfer : b .«transfer_length» < 256 ^ 4
-  pub address : b .«cd_address» < 256 ^ 4
-  pub count : b .«cd_length» < 256 ^ 2
 
 -- the same block but for its fields of several bytes
 abbrev with : CommandBlock → ℕ → ℕ → ℕ → ℕ → CommandBlock

@@ -1,6 +1,6 @@
 -- The command block as bytes, and bytes as a command block.
 -- Assumes nothing.
-use Prim.Native.Nat.{ℕ}
+use Prim.Native.Nat.{ℕ, _<_, _^_}
 use mathlib.Core.Bool.{not}
 use mathlib.Core.List.{List, [], _∷_, _++_}
 use lib.Dec.{ltb}
@@ -27,6 +27,13 @@ commandBytes b =
     usbc ++ (highFirst 4 (b .tag) ++ (lowFirst 4 (b .«transfer_length»)
     ++ (directionNumber (b .flags) ∷ b .lun ∷ b .«cdb_length» ∷ codeNumber (b .«cd_code») ∷ b .«cd_opcode»
     ∷ (highFirst 4 (b .«cd_address») ++ (0 ∷ highFirst 2 (b .«cd_length»))))))
+
+-- numbers that the fields of several bytes can hold
+pub record BlockFits (b : CommandBlock) : Type 0 where
+  pub tag : b .tag < 256 ^ 4
+  pub transfer : b .«transfer_length» < 256 ^ 4
+  pub address : b .«cd_address» < 256 ^ 4
+  pub count : b .«cd_length» < 256 ^ 2
 
 -- fills 24 bytes, returns 31
 unfoldable pub writeCommand : CommandBlock → ℕ → Writing

@@ -10,7 +10,7 @@ use Rattle.protocol.specs.declared.CommandBlockParseError.the-variants.{
 use Rattle.protocol.specs.declared.CommandAnswer.{CommandAnswer}
 use Rattle.protocol.specs.declared.CommandAnswer.the-variants.{Block, Refused}
 use Rattle.protocol.specs.declared.CommandParse.{CommandParse}
-use Rattle.block.specs.Signature.{noSignature, signatureIn}
+use Rattle.block.specs.Signature.{signatureIn}
 
 unfoldable pub commandErrorNumber : CommandBlockParseError → ℕ
 commandErrorNumber (InvalidLength n) = 1
@@ -28,10 +28,6 @@ commandErrorValues (UnknownCommandCode byte) signature = byte ∷ []
 unfoldable pub commandTold : CommandAnswer → List ℕ → Told CommandBlock
 commandTold (Block b) signature = given b
 commandTold (Refused error) signature = refused (commandErrorNumber error) (commandErrorValues error signature)
-
--- an answer with no signature to tell
-abbrev pub parsed : CommandAnswer → CommandParse
-parsed answer = record { answer = answer; signature = noSignature }
 
 -- a reader that answers r where `told` is right
 pub record CommandMeets (r : CommandParse) (told : Told CommandBlock) : Type 0 where

@@ -16,11 +16,14 @@ use codes::DirectionRead;
 use codes::ResetOpcode;
 use codes::StorageIndex;
 ghost use mathlib.Core.Path.{_≡_};
-ghost use Prim.Native.Nat.{_≤_};
+ghost use mathlib.Core.List.{List};
+ghost use Prim.Native.Nat.{ℕ, _≤_};
 ghost use lib.ListN.{length};
 ghost use Rattle.protocol.specs.Commands.{replyCommand, opcodeCommand, sectorCommand, flashIdCommand, flashInfoCommand, capabilityCommand, chipInfoCommand, storageCommand, eraseLbaCommand, eraseForceCommand, readLbaCommand, writeLbaCommand, resetCommand, switchCommand};
 ghost use Rattle.protocol.specs.CommandBytes.{commandBytes, blockOf, readCommand, writeCommand};
-ghost use Rattle.protocol.specs.CommandMeets.{CommandMeets, parsed};
+ghost use Rattle.protocol.specs.CommandMeets.{CommandMeets, commandErrorNumber, commandTold};
+ghost use Rattle.protocol.specs.Code.{parsed};
+ghost use Rattle.wire.specs.Told.{number};
 ghost use Rattle.block.specs.Writing.{WriteMeets};
 
 // Total size of a command block.
@@ -54,9 +57,35 @@ pub enum CommandBlockParseError {
     InvalidLength(usize),
 }
 
+impl CommandBlockParseError {
+    // The document's number.
+    pub fn number(self) -> u8
+        ensures { λ r. ⌜ r ≡ commandErrorNumber self ⌝ }
+    {
+        match self {
+            CommandBlockParseError::InvalidLength(_) => 1,
+            CommandBlockParseError::InvalidSignature => 2,
+            CommandBlockParseError::UnknownFlags(_) => 3,
+            CommandBlockParseError::UnknownCommandCode(_) => 4,
+        }
+    }
+}
+
 pub enum CommandAnswer {
     Block(CommandBlock),
     Refused(CommandBlockParseError),
+}
+
+impl CommandAnswer {
+    // The document's number, 0 where a command was read.
+    pub fn number(self) -> u8
+        ensures { λ r. ⌜ ((signature : List ℕ) → r ≡ number (commandTold self signature)) ⌝ }
+    {
+        match self {
+            CommandAnswer::Block(_) => 0,
+            CommandAnswer::Refused(error) => error.number(),
+        }
+    }
 }
 
 pub struct CommandParse {

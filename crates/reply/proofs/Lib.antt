@@ -1,7 +1,8 @@
 -- Laws of replies: `Places` links the count of ones and the trailing zeros of a word to the places that are set in it, `OneBit` says which words are accepted,
--- `Masks` what a flag's mask asks, `Unique` that answers are equal, `Examples` has document 01's P9 to P12.
+-- `Masks` what a flag's mask asks, `Unique` that answers are equal, `Examples` has document 01's P9 to P12, `Wrong` programs that the contracts rule out.
 pub mod Places
 pub mod OneBit
 pub mod Masks
 pub mod Unique
 pub mod Examples
+pub mod Wrong

@@ -1,4 +1,4 @@
--- The flag places of `Capability`: a byte of the reply and the bit in it. proofs/Flags.antt says what the mask asks: the bit at that place is set.
+-- The flag places of `Capability`: a byte of the reply and the bit in it. proofs/Masks.antt says what the mask asks: the bit at that place is set.
 -- Assumes nothing.
 use Prim.Native.Nat.{ℕ}
 use mathlib.Core.Bool.{Bool}

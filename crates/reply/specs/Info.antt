@@ -5,12 +5,13 @@ use mathlib.Core.List.{List}
 use Rattle.wire.specs.Bytes.{fromLow, field}
 use Rattle.block.specs.Sector.{sectorSize}
 
-unfoldable pub flashSectors : List ℕ → ℕ
-flashSectors info = fromLow (field 0 4 info)
+-- the sectors that a flash info names
+unfoldable pub infoSectors : List ℕ → ℕ
+infoSectors info = fromLow (field 0 4 info)
 
 -- in bytes
 unfoldable pub flashSize : List ℕ → ℕ
-flashSize info = flashSectors info * sectorSize
+flashSize info = infoSectors info * sectorSize
 
 unfoldable pub blockSizeSectors : List ℕ → ℕ
 blockSizeSectors info = fromLow (field 4 2 info)

@@ -3,7 +3,7 @@ use block::SECTOR_SIZE;
 use block::order::u16_from_le_bytes;
 use block::order::u32_from_le_bytes;
 ghost use mathlib.Core.Path.{_≡_};
-ghost use Rattle.reply.specs.Info.{flashSectors, flashSize, blockSizeSectors};
+ghost use Rattle.reply.specs.Info.{infoSectors, flashSize, blockSizeSectors};
 
 pub struct ChipInfo(pub [u8; 16]);
 
@@ -50,7 +50,7 @@ impl FlashInfo {
 
     // flash size in 512 byte sectors
     pub fn sectors(self) -> u32
-        ensures { λ r. ⌜ r ≡ flashSectors (self .0) ⌝ }
+        ensures { λ r. ⌜ r ≡ infoSectors (self .0) ⌝ }
     {
         let b = self.0;
         u32_from_le_bytes([b[0], b[1], b[2], b[3]])

@@ -2,12 +2,25 @@
 use block::order::u32_from_le_bytes;
 use codes::StorageIndex;
 ghost use mathlib.Core.Path.{_≡_};
+ghost use Rattle.wire.specs.Told.{number};
 ghost use Rattle.reply.specs.Media.{storageTold, readStorage};
 
 pub enum StorageAnswer {
     Index(StorageIndex),
     // 14: not exactly one bit set
     ReplyParseFailure,
+}
+
+impl StorageAnswer {
+    // The document's number, 0 where there is an index.
+    pub fn number(self) -> u8
+        ensures { λ r. ⌜ r ≡ number (storageTold self) ⌝ }
+    {
+        match self {
+            StorageAnswer::Index(_) => 0,
+            StorageAnswer::ReplyParseFailure => 14,
+        }
+    }
 }
 
 pub fn storage_index(reply: [u8; 4]) -> StorageAnswer

@@ -1,6 +1,7 @@
 // Counts of bytes and of sectors, which never pass for each other.
 use block::SECTOR_SIZE;
 ghost use mathlib.Core.Path.{_≡_};
+ghost use Rattle.wire.specs.Told.{number};
 ghost use Rattle.reply.specs.Sectors.{sectorTold, sectorsIn};
 
 // Bytes transferred.
@@ -15,6 +16,19 @@ pub enum SectorAnswer {
     NotSectors,
     // 24: above 65,535 sectors
     TooMany,
+}
+
+impl SectorAnswer {
+    // The document's number, 0 where there is a count.
+    pub fn number(self) -> u8
+        ensures { λ r. ⌜ r ≡ number (sectorTold self) ⌝ }
+    {
+        match self {
+            SectorAnswer::Count(_) => 0,
+            SectorAnswer::NotSectors => 23,
+            SectorAnswer::TooMany => 24,
+        }
+    }
 }
 
 const MOST_SECTORS: usize = 65535;

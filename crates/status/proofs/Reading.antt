@@ -17,7 +17,8 @@ use Rattle.status.specs.declared.report.StatusParse.{StatusParse}
 use Rattle.status.specs.declared.report.StatusAnswer.the-variants.{Block, Refused}
 use Rattle.status.specs.declared.report.CommandStatusParseError.the-variants.{InvalidSignature, InvalidLength, InvalidStatus}
 use Rattle.status.specs.StatusBytes.{reportOf, readStatus}
-use Rattle.status.specs.StatusMeets.{statusErrorTold, statusTold, parsed, StatusMeets}
+use Rattle.status.specs.StatusMeets.{statusErrorTold, statusTold, StatusMeets}
+use Rattle.status.specs.Code.{parsed}
 
 module _ (bytes : List ℕ) where
   pub read-short : length bytes < 13 → readStatus bytes ≡ refused 5 (length bytes ∷ [])

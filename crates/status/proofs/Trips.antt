@@ -24,12 +24,8 @@ use Rattle.block.proofs.Rewritten.{low-rewritten, high-rewritten}
 use Rattle.block.proofs.Given.{rule-met, first-given}
 use Rattle.status.specs.declared.report.CommandStatus.{CommandStatus}
 use Rattle.status.specs.StatusBytes.{statusBytes, reportOf, readStatus}
+pub use Rattle.status.specs.StatusBytes.{StatusFits}
 use Rattle.status.proofs.Reading.{read-signed}
-
--- numbers that the fields can hold
-pub record StatusFits (s : CommandStatus) : Type 0 where
-  pub tag : s .tag < 256 ^ 4
-  pub residue : s .residue < 256 ^ 4
 
 pub reads-back : (s : CommandStatus) (behind : List ℕ) → StatusFits s → readStatus (statusBytes s ++ behind) ≡ given s
 unfolding statusBytes highFirst lowFirst same andThen reportOf

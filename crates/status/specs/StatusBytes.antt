@@ -1,6 +1,6 @@
 -- The status block as bytes, and bytes as a status block.
 -- Assumes nothing.
-use Prim.Native.Nat.{ℕ}
+use Prim.Native.Nat.{ℕ, _<_, _^_}
 use mathlib.Core.Bool.{not}
 use mathlib.Core.List.{List, [], _∷_, _++_}
 use lib.Dec.{ltb}
@@ -22,6 +22,11 @@ statusLength = 13
 -- `USBS`; tag, big-endian; residue, little-endian; status 0 or 1
 unfoldable pub statusBytes : CommandStatus → List ℕ
 statusBytes s = usbs ++ (highFirst 4 (s .tag) ++ (lowFirst 4 (s .residue) ++ (statusNumber (s .status) ∷ [])))
+
+-- numbers that the fields can hold
+pub record StatusFits (s : CommandStatus) : Type 0 where
+  pub tag : s .tag < 256 ^ 4
+  pub residue : s .residue < 256 ^ 4
 
 -- longer output is written in its first 13
 unfoldable pub writeStatus : CommandStatus → ℕ → Writing

@@ -10,7 +10,7 @@ use Rattle.status.specs.declared.report.CommandStatusParseError.the-vari
 use Rattle.status.specs.declared.report.StatusAnswer.{StatusAnswer}
 use Rattle.status.specs.declared.report.StatusAnswer.the-variants.{Block, Refused}
 use Rattle.status.specs.declared.report.StatusParse.{StatusParse}
-use Rattle.block.specs.Signature.{noSignature, signatureIn}
+use Rattle.block.specs.Signature.{signatureIn}
 
 -- the second argument is the signature beside the error
 unfoldable pub statusErrorTold : CommandStatusParseError → List ℕ → Told CommandStatus
@@ -21,10 +21,6 @@ statusErrorTold (InvalidStatus byte) signature = refused 7 (byte ∷ [])
 unfoldable pub statusTold : StatusAnswer → List ℕ → Told CommandStatus
 statusTold (Block s) signature = given s
 statusTold (Refused error) signature = statusErrorTold error signature
-
--- an answer with no signature to tell
-abbrev pub parsed : StatusAnswer → StatusParse
-parsed answer = record { answer = answer; signature = noSignature }
 
 -- a reader that answers r where `told` is right
 pub record StatusMeets (r : StatusParse) (told : Told CommandStatus) : Type 0 where

@@ -3,7 +3,7 @@ use super::report::CommandStatusParseError;
 ghost use Prim.Native.Nat.{ℕ};
 ghost use mathlib.Core.Path.{_≡_};
 ghost use mathlib.Core.List.{List};
-ghost use Rattle.status.specs.Failure.{failureTold, atFinish};
+ghost use Rattle.status.specs.Failure.{failureNumber, failureTold, atFinish};
 ghost use Rattle.status.specs.StatusMeets.{statusErrorTold};
 
 pub enum UsbOperationError {
@@ -16,6 +16,20 @@ pub enum UsbOperationError {
 }
 
 impl UsbOperationError {
+    // The document's number.
+    pub fn number(self) -> u8
+        ensures { λ r. ⌜ r ≡ failureNumber self ⌝ }
+    {
+        match self {
+            UsbOperationError::TagMismatch => 10,
+            UsbOperationError::InvalidStatusSignature => 11,
+            UsbOperationError::InvalidStatusStatus(_) => 12,
+            UsbOperationError::InvalidStatusLength => 13,
+            UsbOperationError::ReplyParseFailure => 14,
+            UsbOperationError::FailedStatus => 15,
+        }
+    }
+
     pub fn from_status(error: CommandStatusParseError) -> UsbOperationError
         ensures { λ r. ⌜ ((signature : List ℕ) → failureTold r signature ≡ atFinish (statusErrorTold error signature)) ⌝ }
     {

@@ -9,10 +9,13 @@ use bytes;
 use codes::Status;
 use codes::StatusRead;
 ghost use mathlib.Core.Path.{_≡_};
-ghost use Prim.Native.Nat.{_≤_};
+ghost use mathlib.Core.List.{List};
+ghost use Prim.Native.Nat.{ℕ, _≤_};
 ghost use lib.ListN.{length};
 ghost use Rattle.status.specs.StatusBytes.{statusBytes, reportOf, readStatus, writeStatus};
-ghost use Rattle.status.specs.StatusMeets.{StatusMeets, parsed};
+ghost use Rattle.status.specs.StatusMeets.{StatusMeets, statusErrorTold, statusTold};
+ghost use Rattle.status.specs.Code.{parsed};
+ghost use Rattle.wire.specs.Told.{number};
 ghost use Rattle.block.specs.Writing.{WriteMeets};
 
 // Total size of a status block.
@@ -34,9 +37,34 @@ pub enum CommandStatusParseError {
     InvalidStatus(u8),
 }
 
+impl CommandStatusParseError {
+    // The document's number.
+    pub fn number(self) -> u8
+        ensures { λ r. ⌜ ((signature : List ℕ) → r ≡ number (statusErrorTold self signature)) ⌝ }
+    {
+        match self {
+            CommandStatusParseError::InvalidLength(_) => 5,
+            CommandStatusParseError::InvalidSignature => 6,
+            CommandStatusParseError::InvalidStatus(_) => 7,
+        }
+    }
+}
+
 pub enum StatusAnswer {
     Block(CommandStatus),
     Refused(CommandStatusParseError),
+}
+
+impl StatusAnswer {
+    // The document's number, 0 where a status was read.
+    pub fn number(self) -> u8
+        ensures { λ r. ⌜ ((signature : List ℕ) → r ≡ number (statusTold self signature)) ⌝ }
+    {
+        match self {
+            StatusAnswer::Block(_) => 0,
+            StatusAnswer::Refused(error) => error.number(),
+        }
+    }
 }
 
 pub struct StatusParse {

@@ -13,7 +13,7 @@ use Rattle.block.specs.Signature.{usbc, same}
 use Rattle.block.proofs.Short.{field-elements}
 use Rattle.protocol.specs.declared.CommandBlock.{CommandBlock}
 use Rattle.protocol.specs.declared.CommandAnswer.the-variants.{Block}
-use Rattle.protocol.specs.CommandMeets.{parsed}
+use Rattle.protocol.specs.Code.{parsed}
 use Rattle.protocol.proofs.Reading.{meets-short, meets-unsigned, meets-flags, meets-code, meets-block}
 use Rattle.protocol.proofs.CommandBlock.from_bytes.Statement.{statement}
 use Rattle.protocol.proofs.CommandBlock.from_bytes.Tie as tie

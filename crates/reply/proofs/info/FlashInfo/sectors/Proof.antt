@@ -6,7 +6,7 @@ use borrow.Author.Needs.{needs}
 use lib.ListN.{length}
 use Rattle.wire.specs.Bytes.{fromLow}
 use Rattle.block.proofs.Short.{field-elements}
-use Rattle.reply.specs.Info.{flashSectors}
+use Rattle.reply.specs.Info.{infoSectors}
 use Rattle.reply.proofs.info.FlashInfo.sectors.Statement.{statement}
 use Rattle.reply.proofs.info.FlashInfo.sectors.Tie as tie
 
@@ -14,7 +14,7 @@ long : (s : tie.Start) → length (s .args .self .0) ≡ 11
 long s = search needs
 
 returns : tie.Need-returns
-unfolding flashSectors
+unfolding infoSectors
 returns c =
     let start = c .before .before in
     let enough : 0 + 4 ≤ length (start .args .self .0) = omega (arith, long start) in

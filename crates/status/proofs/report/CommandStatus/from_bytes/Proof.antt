@@ -11,7 +11,7 @@ use lib.ListN.{length, take}
 use Rattle.block.specs.Signature.{usbs, same}
 use Rattle.status.specs.declared.report.CommandStatus.{CommandStatus}
 use Rattle.status.specs.declared.report.StatusAnswer.the-variants.{Block}
-use Rattle.status.specs.StatusMeets.{parsed}
+use Rattle.status.specs.Code.{parsed}
 use Rattle.block.proofs.Short.{field-elements}
 use Rattle.codes.specs.Reading.{statusReadTold}
 use Rattle.status.proofs.Reading.{meets-short, meets-unsigned, meets-unknown, meets-given}
