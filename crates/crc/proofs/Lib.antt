@@ -1,7 +1,7 @@
--- `Xor` has what the library's bits lack, `Linear` the linearity of the bit step, `Bytewise` the rule of the table, `Closed` its entries without one, `Words` eight bytes as one number, `Laws` what crates above cite.
+-- `Xor` has what the library's bits lack, `Linear` the linearity of the bit step, `Bytewise` the rule of the table, `Words` eight bytes as one number, `Laws` what crates above cite, `Wrong` programs that are ruled out.
 pub mod Xor
 pub mod Linear
 pub mod Bytewise
-pub mod Closed
 pub mod Words
 pub mod Laws
+pub mod Wrong

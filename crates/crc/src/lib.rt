@@ -1,4 +1,4 @@
-// CRC-16/IBM-3740: eight bytes at a time as one number, a byte at a time, or a byte at a time by a table of 256 entries.
+// CRC-16/IBM-3740: eight bytes at a time as one number, or a byte at a time by a table of 256 entries.
 ghost use mathlib.Core.Path.{_≡_};
 ghost use Prim.Native.Nat.{ℕ, _≤_, _<_};
 ghost use lib.ListN.{length};
@@ -286,43 +286,27 @@ fn byte_step(t: &[u16; 256], crc: u16, byte: u8) -> u16
     ((crc % 256) * 256) ^ t[at as usize]
 }
 
-// The register after all of `bytes`, a byte at a time by the table: what the original does, and what the others are measured against.
-pub fn update_by_table(crc: u16, bytes: &[u8]) -> u16
+// The register after all of `bytes`, by a table that is lent.
+fn over_bytes(t: &[u16; 256], crc: u16, bytes: &[u8]) -> u16
+    requires { ⌜ now t ≡ crcTable ⌝ }
     ensures { λ r. ⌜ r ≡ crcOver crc (now (bytes .entry)) ⌝ }
 {
-    let t = table();
     let n = bytes.len();
     let mut c = crc;
     let mut i = 0;
     while i < n {
-        c = byte_step(&t, c, bytes[i]);
+        c = byte_step(t, c, bytes[i]);
         i += 1;
     }
     c
 }
 
-// The register after one byte more, the entry worked out from its index: no table has to be built.
-fn computed_step(crc: u32, byte: u8) -> u32
-    requires { ⌜ crc < 65536 ⌝ }
-    ensures { λ r. ⌜ (r ≡ byteStep crc byte) × (r < 65536) ⌝ }
-{
-    let at = (crc / 256) ^ (byte as u32);
-    let folded = at ^ (at / 16);
-    ((crc % 256) * 256) ^ (((folded % 16) * 4096) ^ ((folded * 32) ^ folded))
-}
-
-// The register after all of `bytes`, a byte at a time without a table: for short input, and where the stack is small.
-pub fn update_bytewise(crc: u16, bytes: &[u8]) -> u16
+// The register after all of `bytes`, a byte at a time by the table.
+pub fn update_by_table(crc: u16, bytes: &[u8]) -> u16
     ensures { λ r. ⌜ r ≡ crcOver crc (now (bytes .entry)) ⌝ }
 {
-    let end = bytes.len();
-    let mut c = crc as u32;
-    let mut i = 0;
-    while i < end {
-        c = computed_step(c, bytes[i]);
-        i += 1;
-    }
-    c as u16
+    let t = table();
+    over_bytes(&t, crc, bytes)
 }
 
 // The 64 bits of eight bytes.
@@ -351,9 +335,9 @@ fn fold(before: u64, word: u64) -> u64
     moved ^ word
 }
 
-// The register after 64 bits.
-fn settle(bits: u64) -> u16
-    ensures { λ r. ⌜ r ≡ bitsStep 0 64 bits ⌝ }
+// The register after 64 bits and the bytes behind them.
+fn settle(bits: u64, rest: &[u8]) -> u16
+    ensures { λ r. ⌜ r ≡ crcOver (bitsStep 0 64 bits) (now (rest .entry)) ⌝ }
 {
     let seven = bits / 256;
     let six = seven / 256;
@@ -372,7 +356,9 @@ fn settle(bits: u64) -> u16
         (seven % 256) as u8,
         (bits % 256) as u8,
     ];
-    update_bytewise(0, &bytes)
+    let t = table();
+    let crc = over_bytes(&t, 0, &bytes);
+    over_bytes(&t, crc, rest)
 }
 
 // Eight bytes at a time as one number; the register goes into the first two of them.
@@ -388,7 +374,7 @@ fn update_by_words(crc: u16, bytes: &[u8]) -> u16
         bits = fold(bits, word_of(&bytes[i..e]));
         i = e;
     }
-    update_bytewise(settle(bits), &bytes[n..])
+    settle(bits, &bytes[n..])
 }
 
 // The register after all of `bytes`.
@@ -399,7 +385,7 @@ pub fn update(crc: u16, bytes: &[u8]) -> u16
     let length = bytes.len();
     let all = &bytes[..length];
     if length < SHORT {
-        return update_bytewise(crc, all);
+        return update_by_table(crc, all);
     }
     update_by_words(crc, all)
 }

@@ -16,18 +16,6 @@ pub fn whole(area: u16, checked: bool, image: &[u8], out: &mut [u8], budget: u32
     uploads::whole_on(started.upload, image, out, budget)
 }
 
-// Its first step alone, by the byte-wise check: 28, unless that step is the last.
-pub fn first_bytewise(area: u16, checked: bool, image: &[u8], out: &mut [u8]) -> u8
-    ensures { λ r. ⌜ DriveMeets r (now (out .exit)) (wholeDrive area checked (now (image .entry)) (now (out .entry)) 1) ⌝ }
-{
-    let started = uploads::start(area, checked, image);
-    let start = started.start;
-    let UploadStart::Started = start else {
-        return 25;
-    };
-    uploads::first_bytewise(started.upload, image, out)
-}
-
 // A whole upload in parts of `size` bytes, handed over by `budget` calls at most.
 pub fn parts(area: u16, checked: bool, size: usize, image: &[u8], out: &mut [u8], budget: u32) -> u8
     ensures { λ r. ⌜ DriveMeets r (now (out .exit)) (partDrive area checked size (now (image .entry)) (now (out .entry)) budget) ⌝ }

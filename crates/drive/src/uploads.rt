@@ -97,19 +97,6 @@ pub(crate) fn whole_on(upload: WholeUpload, image: &[u8], out: &mut [u8], budget
     28
 }
 
-// One step, by the byte-wise check.
-pub(crate) fn first_bytewise(upload: WholeUpload, image: &[u8], out: &mut [u8]) -> u8
-    ensures { λ r. ⌜ DriveMeets r (now (out .exit)) (stepDrive (stepOf (now (image .entry))) 1 upload (now (out .entry))) ⌝ }
-{
-    let stepped = upload.step_bytewise(image, out);
-    let step = stepped.step;
-    let pace = pace_of(step);
-    match pace {
-        Pace::Goes => 28,
-        Pace::Ends(number) => number,
-    }
-}
-
 const MOST_CLOSING: u32 = 3;
 
 // The same for the closing steps of an image that was handed over.

@@ -18,22 +18,6 @@ pub extern "C" fn otterarch_crc_update(crc: u16, bytes: &[u8]) -> u16
     crc::update(crc, bytes)
 }
 
-// The same a byte at a time, for a core with little stack.
-#[no_mangle]
-pub extern "C" fn otterarch_crc_update_bytewise(crc: u16, bytes: &[u8]) -> u16
-    ensures { λ r. ⌜ r ≡ crcOver crc (now (bytes .entry)) ⌝ }
-{
-    crc::update_bytewise(crc, bytes)
-}
-
-// The same eight bytes at a time by eight tables.
-#[no_mangle]
-pub extern "C" fn otterarch_crc_update_by_eight(crc: u16, bytes: &[u8]) -> u16
-    ensures { λ r. ⌜ r ≡ crcOver crc (now (bytes .entry)) ⌝ }
-{
-    slicing::update_by_eight(crc, bytes)
-}
-
 // The same a byte at a time by the 256-entry table, as the original does it.
 #[no_mangle]
 pub extern "C" fn otterarch_crc_update_by_table(crc: u16, bytes: &[u8]) -> u16
@@ -54,19 +38,6 @@ pub extern "C" fn otterarch_upload_whole(
     ensures { λ r. ⌜ DriveMeets r (now (out .exit)) (wholeDrive area checked (now (image .entry)) (now (out .entry)) budget) ⌝ }
 {
     drive::whole(area, checked, image, out, budget)
-}
-
-// Its first step alone, by the byte-wise check: 28, unless that step is the last.
-#[no_mangle]
-pub extern "C" fn otterarch_upload_first_bytewise(
-    area: u16,
-    checked: bool,
-    image: &[u8],
-    out: &mut [u8],
-) -> u8
-    ensures { λ r. ⌜ DriveMeets r (now (out .exit)) (wholeDrive area checked (now (image .entry)) (now (out .entry)) 1) ⌝ }
-{
-    drive::first_bytewise(area, checked, image, out)
 }
 
 // A whole upload in parts of `size` bytes, handed over by `budget` calls at most.

@@ -26,8 +26,9 @@ use Rattle.maskrom.specs.declared.UploadStart.{UploadStart}
 use Rattle.maskrom.specs.declared.UploadStart.the-variants as start
 use Rattle.maskrom.specs.declared.WholeStart.{WholeStart}
 use Rattle.maskrom.specs.Answers.{closedAlready, Handed, took, filled, Asks, writes, finish, partTold, stepTold, startTold}
-use Rattle.maskrom.specs.PartWise.{parted, partStep, closedWith, closeStep}
-use Rattle.maskrom.specs.Whole.{StartMeets, steppedWith, wholeStep}
+use Rattle.maskrom.specs.PartWise.{partStep, closeStep}
+use Rattle.maskrom.specs.Whole.{StartMeets, wholeStep}
+use Rattle.maskrom.specs.Code.{parted, closedWith, steppedWith}
 
 -- number and values say which answer it was
 partOf : Told Handed → PartStep

@@ -11,10 +11,6 @@ use Rattle.crc.specs.Check.{start}
 use Rattle.transfer.specs.declared.MaskRomSteps.{MaskRomSteps}
 use Rattle.transfer.specs.declared.MaskRomSteps.the-variants.{Writing, Check, Dummy, Done}
 use Rattle.maskrom.specs.declared.MaskRomOperation.{MaskRomOperation}
-use Rattle.maskrom.specs.declared.PartStep.{PartStep}
-use Rattle.maskrom.specs.declared.PartStepped.{PartStepped}
-use Rattle.maskrom.specs.declared.UploadStep.{UploadStep}
-use Rattle.maskrom.specs.declared.CloseStepped.{CloseStepped}
 use Rattle.transfer.specs.declared.Moved.{Moved}
 use Rattle.transfer.specs.Moves.{blockSize, register}
 use Rattle.maskrom.specs.Answers.{longest, tooLong, closedAlready, control, Handed, took, filled, Asks, writes, finish}
@@ -61,9 +57,6 @@ holding m ys =
     withBlock m (m .taken + length ys) (register (m .checked) (m .crc) ys)
     (held m ++ (ys ++ drop (waiting m + length ys) (m .block)))
 
-abbrev pub parted : PartStep → MaskRomOperation → PartStepped
-parted step m = record { step = step; next = m }
-
 -- "says how many it took, and puts a full transfer in the first 4,096 output bytes"
 unfoldable pub takes : MaskRomOperation → List ℕ → Does Handed MaskRomOperation
 takes m ys =
@@ -97,9 +90,6 @@ withMoved m crc steps = record {
   steps = steps;
   block = m .block;
 }
-
-abbrev pub closedWith : UploadStep → MaskRomOperation → CloseStepped
-closedWith step m = record { step = step; next = m }
 
 -- what the transfer comes to in this record
 abbrev pub closes : MaskRomOperation → Does Moved Unit → Does Asks MaskRomOperation

@@ -13,8 +13,6 @@ use Rattle.transfer.specs.declared.MaskRomSteps.{MaskRomSteps}
 use Rattle.transfer.specs.declared.MaskRomSteps.the-variants.{Writing, Check, Dummy, Done}
 use Rattle.maskrom.specs.declared.WholeUpload.{WholeUpload}
 use Rattle.maskrom.specs.declared.WholeStart.{WholeStart}
-use Rattle.maskrom.specs.declared.UploadStep.{UploadStep}
-use Rattle.maskrom.specs.declared.WholeStepped.{WholeStepped}
 use Rattle.transfer.specs.declared.Moved.{Moved}
 use Rattle.transfer.specs.Moves.{blockSize, register}
 use Rattle.maskrom.specs.Answers.{longest, tooLong, differs, startTold, Asks}
@@ -61,9 +59,6 @@ sentOn u n crc steps = record {
   crc = crc;
   steps = steps;
 }
-
-abbrev pub steppedWith : UploadStep → WholeUpload → WholeStepped
-steppedWith step u = record { step = step; next = u }
 
 -- the next transfer, of these bytes of the image
 unfoldable pub sendsOn : WholeUpload → List ℕ → ℕ → Told (Does Asks WholeUpload)

@@ -4,12 +4,13 @@ ghost use mathlib.Core.Path.{_≡_};
 ghost use mathlib.Core.Bool.{true, false};
 ghost use Prim.Native.Nat.{_+_, _≤_, min};
 ghost use lib.ListN.{length, take};
-ghost use Rattle.wire.specs.Told.{given};
+ghost use Rattle.wire.specs.Told.{given, number};
 ghost use Rattle.transfer.specs.Moves.{register};
 ghost use Rattle.transfer.specs.Does.{Meets};
-ghost use Rattle.maskrom.specs.Answers.{control, partTold, stepTold};
-ghost use Rattle.maskrom.specs.PartWise.{fresh, waiting, withBlock, holding, parted, partStep, asks, withMoved, closedWith, closeStep};
-ghost use Rattle.maskrom.specs.Whole.{freshWhole, StartMeets, most, sentOn, steppedWith, sendsOn, wholeStep};
+ghost use Rattle.maskrom.specs.Answers.{control, partTold, stepTold, startTold};
+ghost use Rattle.maskrom.specs.PartWise.{fresh, waiting, withBlock, holding, partStep, asks, withMoved, closeStep};
+ghost use Rattle.maskrom.specs.Whole.{freshWhole, StartMeets, most, sentOn, sendsOn, wholeStep};
+ghost use Rattle.maskrom.specs.Code.{parted, closedWith, steppedWith};
 use transfer::MaskRomSteps;
 use transfer::Moved;
 use transfer::Sent;
@@ -89,6 +90,47 @@ pub struct WholeStart {
 pub struct WholeStepped {
     pub step: UploadStep,
     pub next: WholeUpload,
+}
+
+impl PartStep {
+    // The document's number of the answer, 0 where it gives something.
+    pub fn number(self) -> u8
+        ensures { λ r. ⌜ r ≡ number (partTold self) ⌝ }
+    {
+        match self {
+            PartStep::Taken(_) => 0,
+            PartStep::WriteControl(_, _) => 0,
+            PartStep::OutputTooShort => 20,
+            PartStep::AlreadyClosed => 26,
+            PartStep::ImageTooLong => 25,
+        }
+    }
+}
+
+impl UploadStep {
+    // The document's number of the answer, 0 where it gives something.
+    pub fn number(self) -> u8
+        ensures { λ r. ⌜ r ≡ number (stepTold self) ⌝ }
+    {
+        match self {
+            UploadStep::WriteControl(_) => 0,
+            UploadStep::Finished => 0,
+            UploadStep::OutputTooShort => 20,
+            UploadStep::ImageDiffers => 27,
+        }
+    }
+}
+
+impl UploadStart {
+    // The document's number of the answer, 0 where it gives something.
+    pub fn number(self) -> u8
+        ensures { λ r. ⌜ r ≡ number (startTold self) ⌝ }
+    {
+        match self {
+            UploadStart::Started => 0,
+            UploadStart::ImageTooLong => 25,
+        }
+    }
 }
 
 fn least(a: usize, b: usize) -> usize
@@ -306,16 +348,6 @@ fn block_of(bytes: &[u8]) -> [u8; 4096]
     block
 }
 
-// The register over a chunk, in either form of the check.
-fn register_over(bytewise: bool, checked: bool, crc: u16, chunk: &[u8]) -> u16
-    ensures { λ r. ⌜ r ≡ register checked crc (now (chunk .entry)) ⌝ }
-{
-    if bytewise {
-        return transfer::covered_bytewise(checked, crc, chunk);
-    }
-    transfer::covered(checked, crc, chunk)
-}
-
 impl WholeUpload {
     fn moved_on(self, n: usize, to: Moved) -> WholeUpload
         requires { ⌜ self .taken + n ≤ 4294967295 ⌝ }
@@ -338,13 +370,13 @@ impl WholeUpload {
         WholeStepped { step, next: self }
     }
 
-    fn send_on(self, bytewise: bool, chunk: &[u8], out: &mut [u8]) -> WholeStepped
+    fn send_on(self, chunk: &[u8], out: &mut [u8]) -> WholeStepped
         requires { ⌜ (length (now chunk) ≤ 4096) × (self .taken + length (now chunk) ≤ 4294967295) ⌝ }
         ensures { λ r. ⌜ Meets (stepTold (r .step)) (r .next) (now (out .entry)) (now (out .exit)) self (sendsOn self (now (chunk .entry)) (length (now (out .entry)))) ⌝ }
     {
         let n = chunk.len();
         let steps = self.steps;
-        let crc = register_over(bytewise, self.checked, self.crc, chunk);
+        let crc = transfer::covered(self.checked, self.crc, chunk);
         let block = block_of(chunk);
         let sent = transfer::send(steps, self.checked, crc, block, n, out);
         let Sent::Moved(to) = sent else {
@@ -354,7 +386,8 @@ impl WholeUpload {
         self.moved_on(n, to).after_step(step)
     }
 
-    fn step_by(self, bytewise: bool, image: &[u8], out: &mut [u8]) -> WholeStepped
+    // The next transfer of the image, or the finish.
+    pub fn step(self, image: &[u8], out: &mut [u8]) -> WholeStepped
         ensures { λ r. ⌜ Meets (stepTold (r .step)) (r .next) (now (out .entry)) (now (out .exit)) self (wholeStep self (now (image .entry)) (length (now (out .entry)))) ⌝ }
     {
         if out.len() < BLOCK {
@@ -367,20 +400,6 @@ impl WholeUpload {
         let steps = self.steps;
         let from = least(self.taken as usize, length);
         let end = from + chunk_size(steps, length - from);
-        self.send_on(bytewise, &image[from..end], out)
-    }
-
-    // The next transfer of the image, or the finish.
-    pub fn step(self, image: &[u8], out: &mut [u8]) -> WholeStepped
-        ensures { λ r. ⌜ Meets (stepTold (r .step)) (r .next) (now (out .entry)) (now (out .exit)) self (wholeStep self (now (image .entry)) (length (now (out .entry)))) ⌝ }
-    {
-        self.step_by(false, image, out)
-    }
-
-    // The same by the byte-wise check, for a core with little stack.
-    pub fn step_bytewise(self, image: &[u8], out: &mut [u8]) -> WholeStepped
-        ensures { λ r. ⌜ Meets (stepTold (r .step)) (r .next) (now (out .entry)) (now (out .exit)) self (wholeStep self (now (image .entry)) (length (now (out .entry)))) ⌝ }
-    {
-        self.step_by(true, image, out)
+        self.send_on(&image[from..end], out)
     }
 }

@@ -2,7 +2,7 @@
 -- Assumes nothing.
 use Prim.Native.Nat.{ℕ, _<_, _≤_}
 use mathlib.Core.Path.{_≡_, refl, ap, ap₂, sym, subst, _∙_}
-use mathlib.Core.Bool.{Bool}
+use mathlib.Core.Bool.{Bool, true, false}
 use mathlib.Core.List.{List, [], _∷_, _++_}
 use native.Mathlib.Omega.{arith}
 use lib.ListN.{length}
@@ -10,12 +10,20 @@ use borrow.Author.Tests.{eq-eqb, ne-eqb, lt-ltb, le-ltb}
 use Rattle.wire.specs.Told.{Told, given, refused, andThen}
 use Rattle.wire.specs.Rules.{unless}
 use Rattle.wire.specs.Bytes.{front}
+use Rattle.wire.proofs.Order.{length-high-first}
 use Rattle.transfer.specs.declared.Moved.{Moved}
 use Rattle.transfer.specs.declared.MaskRomSteps.{MaskRomSteps}
 use Rattle.transfer.specs.declared.MaskRomSteps.the-variants.{Writing, Check, Dummy, Done}
-use Rattle.transfer.specs.Moves.{checkBytes, Moves, register, moves, writing, movesAt, SendMeets}
+use Rattle.transfer.specs.Moves.{checkBytes, Moves, register, moves, writing, movesAt}
+use Rattle.transfer.specs.Code.{SendMeets}
 use Rattle.transfer.specs.Does.{Does, does, said, sent, after, Meets}
 use Rattle.transfer.specs.Sending.{tooShort, moved, sendStep}
+
+-- the check is two bytes, or two zeros
+pub length-check : (checked : Bool) (crc : ℕ) → length (checkBytes checked crc) ≡ 2
+unfolding checkBytes
+length-check true crc = length-high-first 2 crc
+length-check false crc = refl
 
 module _ (checked : Bool) (crc : ℕ) (w : List ℕ) where
   pub writing-block : length w ≡ 4096 → writing checked crc w ≡ moves w crc Writing

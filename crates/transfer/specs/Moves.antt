@@ -5,13 +5,11 @@ use mathlib.Core.Bool.{Bool}
 use mathlib.Core.List.{List, [], _∷_, _++_}
 use lib.ListN.{length}
 use lib.Dec.{eqb}
-use mathlib.Core.Path.{_≡_}
 use Rattle.wire.specs.Rules.{pick}
-use Rattle.wire.specs.Bytes.{highFirst, front}
+use Rattle.wire.specs.Bytes.{highFirst}
 use Rattle.crc.specs.Check.{crcOver}
 use Rattle.transfer.specs.declared.MaskRomSteps.{MaskRomSteps}
 use Rattle.transfer.specs.declared.MaskRomSteps.the-variants.{Writing, Check, Dummy, Done}
-use Rattle.transfer.specs.declared.Moved.{Moved}
 
 -- the most that one transfer holds
 abbrev pub blockSize : ℕ
@@ -46,10 +44,3 @@ movesAt Writing checked crc w = writing checked crc w
 movesAt Check checked crc w = moves (checkBytes checked crc) crc Done
 movesAt Dummy checked crc w = moves (0 ∷ []) crc Done
 movesAt Done checked crc w = moves [] crc Done
-
--- what a private step of the code leaves: the bytes at the front of the output, their number, the register and the next place
-pub record SendMeets (r : Moved) (before now : List ℕ) (to : Moves) : Type 0 where
-  pub size : r .size ≡ length (to .bytes)
-  pub crc : r .crc ≡ to .crc
-  pub steps : r .steps ≡ to .steps
-  pub leaves : now ≡ front (to .bytes) before

@@ -4,7 +4,9 @@ ghost use mathlib.Core.List.{[], _∷_, _++_};
 ghost use Prim.Native.Nat.{_+_, _≤_, min};
 ghost use lib.ListN.{length, take};
 ghost use Rattle.wire.specs.Bytes.{front, highFirst};
-ghost use Rattle.transfer.specs.Moves.{checkBytes, register, writing, movesAt, SendMeets};
+ghost use Rattle.wire.specs.Told.{number};
+ghost use Rattle.transfer.specs.Moves.{checkBytes, register, writing, movesAt};
+ghost use Rattle.transfer.specs.Code.{SendMeets};
 ghost use Rattle.transfer.specs.Does.{Meets};
 ghost use Rattle.transfer.specs.Sending.{sentTold, sendStep};
 
@@ -30,6 +32,18 @@ pub enum Sent {
     OutputTooShort,
 }
 
+impl Sent {
+    // The document's number of the answer, 0 where it gives something.
+    pub fn number(self) -> u8
+        ensures { λ r. ⌜ r ≡ number (sentTold self) ⌝ }
+    {
+        match self {
+            Sent::Moved(_) => 0,
+            Sent::OutputTooShort => 20,
+        }
+    }
+}
+
 fn least(a: usize, b: usize) -> usize
     ensures { λ r. ⌜ r ≡ min a b ⌝ }
 {
@@ -42,17 +56,6 @@ pub fn covered(checked: bool, crc: u16, bytes: &[u8]) -> u16
 {
     if checked {
         crc::update(crc, bytes)
-    } else {
-        crc
-    }
-}
-
-// The same, a byte at a time, for a core with little stack.
-pub fn covered_bytewise(checked: bool, crc: u16, bytes: &[u8]) -> u16
-    ensures { λ r. ⌜ r ≡ register checked crc (now (bytes .entry)) ⌝ }
-{
-    if checked {
-        crc::update_bytewise(crc, bytes)
     } else {
         crc
     }

@@ -16,11 +16,11 @@ use Rattle.upload.specs.Upload.{cut}
 use Rattle.transfer.specs.Does.{Does, does}
 use Rattle.maskrom.specs.Answers.{control, Asks, writes}
 use Rattle.maskrom.specs.PartWise.{held, asks, withMoved, closeStep}
-use Rattle.transfer.proofs.Cases.{writing-pad, writing-dummy, writing-last}
+use Rattle.transfer.proofs.Cases.{length-check, writing-pad, writing-dummy, writing-last}
 use Rattle.maskrom.proofs.Cases.{close-acts}
 use Rattle.upload.specs.Drive.{transfer}
 use Rattle.upload.proofs.Cutting.{cut-block, cut-short}
-use Rattle.upload.proofs.Ending.{ending, ending-pad, ending-dummy, ending-last, length-check}
+use Rattle.upload.proofs.Ending.{ending, ending-pad, ending-dummy, ending-last}
 use Rattle.upload.proofs.Sends.{Sends, finishes, sends}
 
 -- the transfers of what is left of an image, `w`, of fewer bytes than a block, and of what follows it

@@ -10,10 +10,10 @@ use lib.Dec.{eqb}
 use borrow.Author.Tests.{ne-eqb}
 use Rattle.wire.specs.Rules.{pick}
 use Rattle.wire.specs.Bytes.{highFirst}
-use Rattle.wire.proofs.Order.{length-high-first}
 use Rattle.crc.specs.Check.{start, check}
 use Rattle.crc.proofs.Laws.{over-append, over-empty}
 use Rattle.transfer.specs.Moves.{checkBytes, register}
+use Rattle.transfer.proofs.Cases.{length-check}
 use Rattle.upload.specs.Upload.{pad, lastZero, uploadBytes}
 
 pub register-empty : (checked : Bool) (crc : ℕ) → register checked crc [] ≡ crc
@@ -54,11 +54,6 @@ upload-ending checked image =
 pub ending-same : (checked : Bool) (crc n k : ℕ) → n % 4096 ≡ k % 4096 → ending checked crc n ≡ ending checked crc k
 unfolding ending pad lastZero
 ending-same checked crc n k e = rw e
-
-pub length-check : (checked : Bool) (crc : ℕ) → length (checkBytes checked crc) ≡ 2
-unfolding checkBytes
-length-check true crc = length-high-first 2 crc
-length-check false crc = refl
 
 module _ (checked : Bool) (crc n : ℕ) where
   pub ending-pad : n % 4096 ≡ 4095 → ending checked crc n ≡ (0 ∷ []) ++ checkBytes checked (register checked crc (0 ∷ []))

@@ -18,11 +18,12 @@ use Rattle.transfer.specs.Does.{does, said, sent, after}
 use Rattle.maskrom.specs.PartWise.{waiting, held, closed, holding, takes, partStep, closeStep}
 use Rattle.transfer.proofs.Lists.{take-min}
 use Rattle.maskrom.proofs.Lists.{filled-length}
+use Rattle.maskrom.proofs.Writes.{front-seen}
 use Rattle.maskrom.proofs.Cases.{part-takes, takes-full, takes-some}
 use Rattle.upload.specs.Drive.{Transfer, transfer, Drive, ended, sending, orAgain, onPart, hand, handAll, stepThrough}
 use Rattle.upload.proofs.Cutting.{cut-block, cut-many}
 use Rattle.upload.proofs.Ending.{register-empty, ending, regroup, ending-same, ending-few}
-use Rattle.upload.proofs.Sends.{enough, front-seen, front-room}
+use Rattle.upload.proofs.Sends.{enough, front-room}
 use Rattle.upload.proofs.Closing.{close-sends}
 
 -- not closed yet, with a whole block

@@ -4,12 +4,12 @@ use Prim.Native.Nat.{ℕ, zero, suc, _<_, _≤_}
 use mathlib.Core.Path.{_≡_, refl, ap, _∙_}
 use mathlib.Core.List.{List, [], _∷_}
 use native.Mathlib.Omega.{arith}
-use lib.ListN.{length, take, drop, length-append, length-drop}
-use lib.Seq.{take-append-seam}
+use lib.ListN.{length, length-append, length-drop}
 use Rattle.wire.specs.Told.{Told, given}
 use Rattle.wire.specs.Bytes.{front}
 use Rattle.transfer.specs.Does.{Does, does, said, sent, after}
 use Rattle.maskrom.specs.Answers.{control, Asks, writes, finish}
+use Rattle.maskrom.proofs.Writes.{front-seen}
 use Rattle.upload.specs.Drive.{Transfer, transfer, ended, unending, sending, onStep, stepThrough}
 
 -- stepping `r` sends these and then finishes, with any output that is long enough
@@ -19,10 +19,7 @@ pub data Sends {R : Type 0} (step : R → ℕ → Told (Does Asks R)) : R → Li
       → ((room : ℕ) → 4096 ≤ room → step r room ≡ given (does (writes (control area (length bs))) bs r′)) → Sends step r′ ts
       → Sends step r (transfer area bs ∷ ts)
 
--- a transfer is what the output then begins with, and the output stays long enough
-pub front-seen : (bs out : List ℕ) → take (length bs) (front bs out) ≡ bs
-front-seen bs out = take-append-seam bs (drop (length bs) out)
-
+-- the output stays long enough
 pub front-room : (bs out : List ℕ) → length bs ≤ 4096 → 4096 ≤ length out → 4096 ≤ length (front bs out)
 front-room bs out b h = simp (length-append, length-drop) (omega arith)
 

@@ -16,11 +16,11 @@ use Rattle.transfer.specs.Does.{Does, does}
 use Rattle.maskrom.specs.Answers.{Asks}
 use Rattle.maskrom.specs.PartWise.{asks}
 use Rattle.maskrom.specs.Whole.{most, sentOn, sendsOn, wholeStep}
-use Rattle.transfer.proofs.Cases.{writing-block}
+use Rattle.transfer.proofs.Cases.{length-check, writing-block}
 use Rattle.maskrom.proofs.Cases.{whole-sends, sends-acts}
 use Rattle.upload.specs.Drive.{transfer}
 use Rattle.upload.proofs.Cutting.{cut-block}
-use Rattle.upload.proofs.Ending.{register-empty, ending, regroup, ending-same, length-check}
+use Rattle.upload.proofs.Ending.{register-empty, ending, regroup, ending-same}
 use Rattle.upload.proofs.Sends.{Sends, finishes, sends}
 use Rattle.upload.proofs.Closing.{ends}
 

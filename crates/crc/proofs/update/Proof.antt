@@ -25,6 +25,6 @@ update-spec =
     (tie.spec
     (λ c. sym (ap length (take-length (now (c .before .before .args .bytes)))))
     (λ c κs. search needs)
-    (λ c. c .update-bytewise .ensures ∙ whole _ _)
+    (λ c. c .update-by-table .ensures ∙ whole _ _)
     (λ c κs. enough (now (c .before .before .before .args .bytes)) (omega arith))
     (λ c. c .update-by-words .ensures ∙ whole _ _))

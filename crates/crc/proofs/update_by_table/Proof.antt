@@ -1,50 +1,7 @@
--- What the register makes of the bytes that are left stays what the start makes of all of them; the measure is how many are left.
--- Assumes nothing.
-use Prim.Native.Nat.{ℕ, _+_, _-_, _≤_, _<_}
-use mathlib.Core.Path.{_≡_, refl, ap, sym, _∙_}
-use native.Mathlib.Omega.{arith}
-use denote.Ref.{now}
-use lib.ListN.{length, drop}
+-- The table is the rule's, and the loop over it has the register over all of the bytes.
 use borrow.Author.Needs.{needs}
-use Rattle.crc.specs.Check.{crcOver}
-use Rattle.crc.proofs.Laws.{over-next, over-past}
 use Rattle.crc.proofs.update_by_table.Statement.{statement}
 use Rattle.crc.proofs.update_by_table.Tie as tie
 
-abbrev Inv-loop : tie.InvT-loop
-Inv-loop crc bytes t n c₀ i₀ c i = (i ≤ length bytes) × (crcOver c (drop i bytes) ≡ crcOver crc bytes)
-
-abbrev μ-loop : tie.MeasureT-loop
-μ-loop crc bytes t n c₀ i₀ c i = length bytes - i
-
-loop-holds : tie.Need-loop-holds Inv-loop μ-loop
-loop-holds c = (omega arith, refl)
-
-byte-step-requires : tie.Need-byte-step-requires Inv-loop μ-loop
-byte-step-requires c κs = c .before .before .before .before .table .ensures
-
-loop-again : tie.Need-loop-again Inv-loop μ-loop
-loop-again c =
-    let l = c .before .before .before .before .loop in
-    let s = now (c .before .before .before .before .before .before .before .args .bytes) in
-    (omega arith, ap (λ (r : ℕ). crcOver r (drop (l .i + 1) s)) (c .byte-step .ensures) ∙ sym (over-next (l .c) (l .i) s (omega arith)) ∙ l .inv .1)
-
-returns : tie.Need-returns Inv-loop μ-loop
-returns c =
-    let l = c .before .loop in
-    sym (over-past (l .c) (l .i) (now (c .before .before .before .before .args .bytes)) (omega arith)) ∙ l .inv .1
-
 pub update-by-table-spec : {M : Type 1} → statement M
-update-by-table-spec =
-    tie.close
-    (tie.spec
-    Inv-loop
-    μ-loop
-    (λ c κs. search needs)
-    loop-holds
-    (λ c. omega arith)
-    byte-step-requires
-    (λ c. omega arith)
-    (λ c. omega arith)
-    loop-again
-    returns)
+update-by-table-spec = tie.close (tie.spec (λ c κs. search needs) (λ c κs. c .before .table .ensures) (λ c. c .over-bytes .ensures))

@@ -45,12 +45,11 @@ again c =
 
 returns : tie.Need-returns Inv-loop μ-loop
 returns c =
-    let l = c .before .before .before .before .loop in
-    let bs = now (c .before .before .before .before .before .before .before .before .args .bytes) in
+    let l = c .before .before .before .loop in
+    let bs = now (c .before .before .before .before .before .before .before .args .bytes) in
     let n = length bs / 8 * 8 in
     let done : n ≡ l .i = omega arith in
-    c .update-bytewise .ensures
-    ∙ ap (λ (r : ℕ). crcOver r (take (length bs - n) (drop n bs))) (c .before .before .settle .ensures)
+    c .settle .ensures
     ∙ ap (crcOver (bitsStep 0 64 (l .bits))) (take-all (length bs - n) (drop n bs) (simp length-drop (omega arith)) ∙ ap (λ (k : ℕ). drop k bs) done) ∙ l .inv .3
 
 pub update-by-words-spec : {M : Type 1} → statement M
@@ -72,7 +71,6 @@ update-by-words-spec =
     (λ c κs. search needs)
     (λ c. omega arith)
     again
-    (λ c κs. search needs)
     (λ c. omega arith)
     (λ c. omega arith)
     (λ c. omega arith)

@@ -20,8 +20,7 @@ use Rattle.budget.specs.Run.{Turned, ends}
 use Rattle.loading.specs.declared.LoadTurned.{LoadTurned}
 use Rattle.loading.specs.Load.{LoadState, loadState, carried, loadTurn}
 use Rattle.loading.specs.Answers.{stopTold, turnTold}
-use Rattle.upload.proofs.Every.{whole-writes}
-use Rattle.upload.proofs.Sends.{front-seen}
+use Rattle.maskrom.proofs.Writes.{front-seen, whole-writes}
 use Rattle.loading.proofs.Sized.{whole-sized}
 use Rattle.loading.proofs.Cases.{turn-carries, turn-finishes, turn-refuses}
 use Rattle.loading.proofs.load_turn.Statement.{statement}

@@ -8,7 +8,8 @@ use denote.Ref.{now}
 use lib.ListN.{length, take}
 use Rattle.wire.specs.Told.{given}
 use Rattle.transfer.specs.declared.Moved.{Moved}
-use Rattle.transfer.specs.Moves.{movesAt, SendMeets}
+use Rattle.transfer.specs.Moves.{movesAt}
+use Rattle.transfer.specs.Code.{SendMeets}
 use Rattle.transfer.specs.Does.{does}
 use Rattle.transfer.specs.Sending.{tooShort, sentTold, moved}
 use Rattle.transfer.proofs.Lists.{take-min}

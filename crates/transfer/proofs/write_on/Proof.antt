@@ -10,7 +10,8 @@ use lib.ListN.{length, take}
 use lib.Seq.{length-take-le}
 use Rattle.transfer.specs.declared.MaskRomSteps.{MaskRomSteps}
 use Rattle.transfer.specs.declared.MaskRomSteps.the-variants.{Writing, Check, Dummy, Done}
-use Rattle.transfer.specs.Moves.{checkBytes, register, moves, SendMeets}
+use Rattle.transfer.specs.Moves.{checkBytes, register, moves}
+use Rattle.transfer.specs.Code.{SendMeets}
 use Rattle.transfer.proofs.Cases.{writing-block, writing-pad, writing-dummy, writing-last, meets}
 use Rattle.transfer.proofs.write_on.Statement.{statement}
 use Rattle.transfer.proofs.write_on.Tie as tie

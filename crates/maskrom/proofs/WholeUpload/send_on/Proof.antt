@@ -38,7 +38,7 @@ sent-chunk k =
     let a = b .before .before .before .before .args in
     let u = a .self in
     subst (λ (step : Told (Does Moved Unit)). Meets (sentTold (k .send .result)) tt (now (a .out)) (k .send .last .1 .1 .1 .1 .1 .0) tt step)
-    (ap₂ (λ (x : ℕ) (l : List ℕ). sendStep (u .steps) (u .checked) x l (length (now (a .out)))) (b .before .register-over .ensures) (b .block-of .ensures))
+    (ap₂ (λ (x : ℕ) (l : List ℕ). sendStep (u .steps) (u .checked) x l (length (now (a .out)))) (b .before .covered .ensures) (b .block-of .ensures))
     (k .send .ensures)
 
 returns : tie.Need-returns

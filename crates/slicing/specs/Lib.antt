@@ -1,2 +1,0 @@
--- `Tables` says what the eight tables of eight bytes at once hold.
-pub mod Tables
