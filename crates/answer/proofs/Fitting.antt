@@ -10,7 +10,7 @@ use borrow.Author.Tests.{leb-true, le-leb, eqb-true, not-false, ltb-false}
 use Rattle.wire.specs.Told.{given, refused}
 use Rattle.wire.specs.Rules.{pick, unless}
 use Rattle.block.specs.Sector.{sectorSize}
-use Rattle.answer.specs.Flash.{mostSectors, flashRules, flashSectors, fitsIn, rangeIn}
+use Rattle.answer.specs.Flash.{mostFlashSectors, flashRules, flashSectors, fitsIn, rangeIn}
 use Rattle.answer.specs.declared.range.FlashRange.{FlashRange}
 use Rattle.answer.specs.declared.range.RangeAnswer.the-variants.{Within, OutOfRange}
 
@@ -62,10 +62,10 @@ unrefused false true m n u v x y e = let z : _≡_ {A = ℕ} 0 1 = cc in absurd 
 unrefused false false m n u v x y e = (refl, refl, cc)
 
 -- a flash that was taken is that many whole sectors
-pub whole-sectors : (n sectors : ℕ) → flashSectors n ≡ given sectors → (n ≡ sectors * sectorSize) × (sectors ≤ mostSectors)
+pub whole-sectors : (n sectors : ℕ) → flashSectors n ≡ given sectors → (n ≡ sectors * sectorSize) × (sectors ≤ mostFlashSectors)
 unfolding flashSectors flashRules unless
 whole-sectors n sectors e =
-    let u = unrefused (not (eqb (n % sectorSize) 0)) (ltb mostSectors (n / sectorSize)) 60 61 (n ∷ []) [] (n / sectorSize) sectors e in
+    let u = unrefused (not (eqb (n % sectorSize) 0)) (ltb mostFlashSectors (n / sectorSize)) 60 61 (n ∷ []) [] (n / sectorSize) sectors e in
     let z = eqb-true (n % sectorSize) 0 (not-false (eqb (n % sectorSize) 0) (u .0)) in
-    let l = ltb-false mostSectors (n / sectorSize) (u .1) in
+    let l = ltb-false mostFlashSectors (n / sectorSize) (u .1) in
     (omega arith, omega arith)

@@ -4,7 +4,7 @@ use Prim.Native.Nat.{ℕ, _+_, _/_, _%_}
 use mathlib.Core.Bool.{Bool, not}
 use mathlib.Core.List.{List, [], _∷_}
 use lib.Dec.{eqb, leb, ltb}
-use Rattle.wire.specs.Told.{Told, given}
+use Rattle.wire.specs.Told.{Told, given, refused}
 use Rattle.wire.specs.Rules.{Rule, rule, pick, unless}
 use Rattle.block.specs.Sector.{sectorSize}
 use Rattle.answer.specs.Told.{errorTold}
@@ -14,16 +14,17 @@ use Rattle.answer.specs.declared.error.MockResult.{MockResult}
 use Rattle.answer.specs.declared.error.MockResult.the-variants as result
 use Rattle.answer.specs.declared.range.FlashSectors.{FlashSectors}
 use Rattle.answer.specs.declared.range.FlashSectors.the-variants.{Whole, Refused}
+use Rattle.answer.specs.declared.range.FlashRange.{FlashRange}
 use Rattle.answer.specs.declared.range.RangeAnswer.{RangeAnswer}
 use Rattle.answer.specs.declared.range.RangeAnswer.the-variants.{Within, OutOfRange}
 
 -- whole sectors, at most 65,536
-abbrev pub mostSectors : ℕ
-mostSectors = 65536
+abbrev pub mostFlashSectors : ℕ
+mostFlashSectors = 65536
 
 -- 60: FlashSize (length); 61: over 65,536 sectors; this order
 unfoldable pub flashRules : ℕ → List Rule
-flashRules n = rule (not (eqb (n % sectorSize) 0)) 60 (n ∷ []) ∷ rule (ltb mostSectors (n / sectorSize)) 61 [] ∷ []
+flashRules n = rule (not (eqb (n % sectorSize) 0)) 60 (n ∷ []) ∷ rule (ltb mostFlashSectors (n / sectorSize)) 61 [] ∷ []
 
 unfoldable pub flashSectors : ℕ → Told ℕ
 flashSectors n = unless (flashRules n) (given (n / sectorSize))
@@ -46,3 +47,8 @@ fitsIn sectors first count = leb (first + count) sectors
 
 unfoldable pub rangeIn : ℕ → ℕ → ℕ → RangeAnswer
 rangeIn sectors first count = pick (fitsIn sectors first count) (Within (record { first = first; count = count })) OutOfRange
+
+-- 57: OutOfRange
+unfoldable pub rangeTold : RangeAnswer → Told FlashRange
+rangeTold (Within range) = given range
+rangeTold OutOfRange = refused 57 []

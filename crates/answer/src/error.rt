@@ -2,7 +2,10 @@
 use codes::CommandCode;
 use protocol::CommandBlockParseError;
 ghost use mathlib.Core.Path.{_≡_};
-ghost use Rattle.answer.specs.Told.{errorNumber};
+ghost use mathlib.Core.List.{List};
+ghost use Prim.Native.Nat.{ℕ};
+ghost use Rattle.wire.specs.Told.{number};
+ghost use Rattle.answer.specs.Told.{errorNumber, resultTold};
 
 pub enum MockTransportError {
     // 50
@@ -76,6 +79,18 @@ impl MockTransportError {
             MockTransportError::FlashSize(_) => 60,
             MockTransportError::TooManySectors => 61,
             MockTransportError::StoreLength => 65,
+        }
+    }
+}
+
+impl MockResult {
+    // 0 where the call was done.
+    pub fn number(self) -> u8
+        ensures { λ r. ⌜ ((signature : List ℕ) → r ≡ number (resultTold self signature)) ⌝ }
+    {
+        match self {
+            MockResult::Done => 0,
+            MockResult::Refused(error) => error.number(),
         }
     }
 }

@@ -4,7 +4,8 @@ use super::error::MockResult;
 use super::error::MockTransportError;
 use block::SECTOR_SIZE;
 ghost use mathlib.Core.Path.{_≡_};
-ghost use Rattle.answer.specs.Flash.{flashSectors, sizeTold, sizeAnswer, rangeIn};
+ghost use Rattle.wire.specs.Told.{number};
+ghost use Rattle.answer.specs.Flash.{flashSectors, sizeTold, sizeAnswer, rangeIn, rangeTold};
 
 const MOST_SECTORS: usize = 65536;
 
@@ -23,6 +24,30 @@ pub struct FlashRange {
 pub enum RangeAnswer {
     Within(FlashRange),
     OutOfRange,
+}
+
+impl FlashSectors {
+    // 0 for a flash of whole sectors.
+    pub fn number(self) -> u8
+        ensures { λ r. ⌜ r ≡ number (sizeTold self) ⌝ }
+    {
+        match self {
+            FlashSectors::Whole(_) => 0,
+            FlashSectors::Refused(error) => error.number(),
+        }
+    }
+}
+
+impl RangeAnswer {
+    // 0 for a range that fits, else 57.
+    pub fn number(self) -> u8
+        ensures { λ r. ⌜ r ≡ number (rangeTold self) ⌝ }
+    {
+        match self {
+            RangeAnswer::Within(_) => 0,
+            RangeAnswer::OutOfRange => 57,
+        }
+    }
 }
 
 pub fn flash_sectors(length: usize) -> FlashSectors

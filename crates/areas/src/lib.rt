@@ -5,7 +5,8 @@ ghost use Prim.Native.Nat.{_+_, _<_};
 ghost use lib.Dec.{leb};
 ghost use lib.ListN.{length};
 ghost use Rattle.areas.specs.Slots.{passes, firstAt, place, freshAreas, areaFound};
-ghost use Rattle.areas.specs.Append.{heldBy, AppendMeets, appendStep};
+ghost use Rattle.wire.specs.Told.{number};
+ghost use Rattle.areas.specs.Append.{heldBy, AppendMeets, appendStep, areaTold};
 
 const SLOTS: usize = 8;
 
@@ -49,6 +50,19 @@ pub enum AreaAnswer {
 pub struct AreaStep {
     pub answer: AreaAnswer,
     pub areas: Areas,
+}
+
+impl AreaAnswer {
+    // 0 where the bytes were written.
+    pub fn number(self) -> u8
+        ensures { λ r. ⌜ r ≡ number (areaTold self) ⌝ }
+    {
+        match self {
+            AreaAnswer::Written => 0,
+            AreaAnswer::NoSlot => 58,
+            AreaAnswer::SlotFull => 59,
+        }
+    }
 }
 
 fn fits(area: Area, wanted: Wanted) -> bool

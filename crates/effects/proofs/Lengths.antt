@@ -8,7 +8,7 @@ use Rattle.wire.specs.Told.{given, refused}
 use Rattle.block.specs.Sector.{sectorSize}
 use Rattle.block.specs.Signature.{noSignature}
 use Rattle.answer.specs.Told.{errorNumber, errorValues, errorTold}
-use Rattle.answer.specs.Flash.{mostSectors, flashSectors, sizeTold, sizeResult, sizeAnswer}
+use Rattle.answer.specs.Flash.{mostFlashSectors, flashSectors, sizeTold, sizeResult, sizeAnswer}
 use Rattle.answer.specs.declared.error.MockTransportError.{MockTransportError}
 use Rattle.answer.specs.declared.range.FlashSectors.{FlashSectors}
 use Rattle.answer.specs.declared.range.FlashSectors.the-variants.{Whole, Refused}
@@ -19,7 +19,7 @@ use Rattle.effects.specs.Steps.{Step, keeps, StepMeets}
 use Rattle.effects.specs.declared.SessionStep.{SessionStep}
 
 -- a flash that is taken has so many sectors
-pub taken : (n sectors : ℕ) → flashSectors n ≡ given sectors → (n / sectorSize ≡ sectors) × (sectors ≤ mostSectors)
+pub taken : (n sectors : ℕ) → flashSectors n ≡ given sectors → (n / sectorSize ≡ sectors) × (sectors ≤ mostFlashSectors)
 taken n sectors e = let h = whole-sectors n sectors e in (omega arith, h .1)
 
 module _ (size : FlashSectors) (n : ℕ) (told : sizeTold size ≡ flashSectors n) where

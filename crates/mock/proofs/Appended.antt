@@ -10,7 +10,7 @@ use Rattle.areas.specs.declared.AreaAnswer.the-variants.{Written, NoSlot, SlotF
 use Rattle.answer.specs.Told.{Answers, errorValues}
 use Rattle.answer.specs.declared.error.MockTransportError.the-variants as error
 use Rattle.answer.proofs.Telling.{answers-error, answers-done}
-use Rattle.mock.specs.Device.{areaResult}
+use Rattle.mock.specs.Code.{areaResult}
 
 pub area-answers : (answer : AreaAnswer) {told : Told Unit} → areaTold answer ≡ told
     → Answers (record { result = areaResult answer; signature = noSignature }) told

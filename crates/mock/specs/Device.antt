@@ -8,27 +8,18 @@ use lib.Dec.{eqb}
 use lib.ListN.{length}
 use Rattle.wire.specs.Told.{Told, given, refused, andThen}
 use Rattle.wire.specs.Rules.{Rule, rule, pick}
-use Rattle.block.specs.Signature.{noSignature}
 use Rattle.lent.specs.Outcome.{orRefuse}
 use Rattle.areas.specs.Slots.{freshAreas, areaFound}
 use Rattle.areas.specs.Append.{appendStep}
 use Rattle.areas.specs.declared.Areas.{Areas}
 use Rattle.areas.specs.declared.AreaFound.{AreaFound}
-use Rattle.areas.specs.declared.AreaStep.{AreaStep}
-use Rattle.areas.specs.declared.AreaAnswer.{AreaAnswer}
-use Rattle.areas.specs.declared.AreaAnswer.the-variants.{Written, NoSlot, SlotFull}
 use Rattle.answer.specs.Told.{Answers}
 use Rattle.answer.specs.Flash.{flashSectors}
-use Rattle.answer.specs.declared.error.MockTransportError.{MockTransportError}
-use Rattle.answer.specs.declared.error.MockTransportError.the-variants as error
-use Rattle.answer.specs.declared.error.MockResult.{MockResult}
-use Rattle.answer.specs.declared.error.MockResult.the-variants.{Done, Refused}
 use Rattle.transaction.specs.declared.session.Session.{Session}
 use Rattle.transaction.specs.declared.session.CommandState.the-variants as state
 use Rattle.transaction.specs.declared.session.LastReset.the-variants as reset
 use Rattle.effects.specs.Steps.{Step, writeStep, readStep}
 use Rattle.identity.specs.declared.MockDeviceConfig.{MockDeviceConfig}
-use Rattle.effects.specs.declared.SessionStep.{SessionStep}
 use Rattle.mock.specs.declared.device.MockState.{MockState}
 use Rattle.mock.specs.declared.device.MockStep.{MockStep}
 
@@ -101,10 +92,14 @@ readBulk s flash buffer = bulk s (readStep (sessionOf s) (s .config) flash buffe
 unfoldable pub isUpload : ℕ → ℕ → ℕ → Bool
 isUpload type request value = pick (eqb type 0x40) (pick (eqb request 0xc) (eqb value 0) false) false
 
--- 65: the lent store isn't as long as at creation; 51: (type, request, value)
+-- 65: the lent store isn't as long as at creation
+abbrev pub storeRule : MockState → ℕ → Rule
+storeRule s n = rule (not (eqb n (s .«store_length»))) 65 []
+
+-- 65; 51: (type, request, value)
 unfoldable pub controlRules : MockState → ℕ → ℕ → ℕ → ℕ → List Rule
 controlRules s type request value n =
-    rule (not (eqb n (s .«store_length»))) 65 [] ∷ rule (not (isUpload type request value)) 51 (type ∷ request ∷ value ∷ []) ∷ []
+    storeRule s n ∷ rule (not (isUpload type request value)) 51 (type ∷ request ∷ value ∷ []) ∷ []
 
 -- order: 65, 51, then the area's 58 and 59; control calls don't touch the transaction
 unfoldable pub writeControl : MockState → ℕ → ℕ → ℕ → ℕ → List ℕ → List ℕ → Call
@@ -120,18 +115,3 @@ writeControl s type request value index bytes store =
 -- where an area's bytes stand, looked up by number
 abbrev pub maskromArea : MockState → ℕ → AreaFound
 maskromArea s number = areaFound (s .areas) number (s .«store_length»)
-
--- the steps as the code makes them
-unfoldable pub areaResult : AreaAnswer → MockResult
-areaResult Written = Done
-areaResult NoSlot = Refused error.NoSlot
-areaResult SlotFull = Refused error.SlotFull
-
-abbrev pub afterSession : MockState → SessionStep → MockStep
-afterSession s step = record { answer = step .answer; state = withSession s (step .session) }
-
-abbrev pub afterAreas : MockState → AreaStep → MockStep
-afterAreas s step = record { answer = record { result = areaResult (step .answer); signature = noSignature }; state = withAreas s (step .areas) }
-
-abbrev pub refusedBy : MockState → MockTransportError → MockStep
-refusedBy s e = record { answer = record { result = Refused e; signature = noSignature }; state = s }

@@ -17,7 +17,8 @@ use transaction::session::LastReset;
 use transaction::session::Session;
 ghost use mathlib.Core.Path.{_≡_};
 ghost use lib.ListN.{length};
-ghost use Rattle.mock.specs.Device.{isUpload, sessionOf, areaResult, afterSession, afterAreas, refusedBy, MockMeets, CreateMeets, created, writeBulk, readBulk, writeControl, maskromArea};
+ghost use Rattle.mock.specs.Device.{isUpload, sessionOf, MockMeets, CreateMeets, created, writeBulk, readBulk, writeControl, maskromArea};
+ghost use Rattle.mock.specs.Code.{areaResult, afterSession, afterAreas, refusedBy};
 
 pub struct MockState {
     pub config: MockDeviceConfig,

@@ -1,7 +1,8 @@
 -- `Meets` says when an outcome comes to a turn, `Sane` and `Own` what holds of every turn of the table, `Accepted` what a turn was that was not refused;
--- `Unique`: outcomes of one turn are equal.
+-- `Unique`: outcomes of one turn are equal. `Wrong`: programs that the contracts rule out.
 pub mod Meets
 pub mod Sane
 pub mod Own
 pub mod Accepted
 pub mod Unique
+pub mod Wrong

@@ -13,7 +13,8 @@ use Rattle.protocol.specs.declared.CommandAnswer.the-variants.{Refused}
 use Rattle.answer.proofs.Telling.{answers-error, answers-done}
 use Rattle.answer.specs.Told.{errorTold, errorValues, resultTold, innerSignature, signatureBeside}
 use Rattle.answer.specs.declared.error.MockTransportError.{MockTransportError}
-use Rattle.transaction.specs.Turn.{Turn, refuses, done, OutcomeMeets, refusedWith, settled, blockResult, blockRefused}
+use Rattle.transaction.specs.Turn.{Turn, refuses, done, OutcomeMeets}
+use Rattle.transaction.specs.Code.{refusedWith, settled, blockResult, blockRefused}
 use Rattle.transaction.specs.Table.{startTurn}
 use Rattle.transaction.specs.declared.session.CommandState.{CommandState}
 use Rattle.transaction.specs.declared.session.LastReset.{LastReset}

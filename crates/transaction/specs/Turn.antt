@@ -13,18 +13,8 @@ use Rattle.codes.specs.declared.CommandCode.the-variants.{EraseLBA, EraseForce}
 use Rattle.codes.specs.declared.Direction.{Direction}
 use Rattle.codes.specs.declared.Direction.the-variants.{In, Out}
 use Rattle.block.specs.Sector.{sectorSize}
-use Rattle.block.specs.Signature.{noSignature}
 use Rattle.protocol.specs.declared.CommandBlock.{CommandBlock}
 use Rattle.answer.specs.Told.{Answers}
-use Rattle.answer.specs.declared.error.MockTransportError.{MockTransportError}
-use Rattle.protocol.specs.declared.CommandParse.{CommandParse}
-use Rattle.protocol.specs.declared.CommandAnswer.{CommandAnswer}
-use Rattle.protocol.specs.declared.CommandAnswer.the-variants.{Block}
-use Rattle.protocol.specs.declared.CommandAnswer.the-variants as answer
-use Rattle.answer.specs.declared.error.MockTransportError.the-variants.{CommandBlockError}
-use Rattle.answer.specs.declared.error.MockAnswer.{MockAnswer}
-use Rattle.answer.specs.declared.error.MockResult.{MockResult}
-use Rattle.answer.specs.declared.error.MockResult.the-variants.{Done, Refused}
 use Rattle.answer.specs.declared.range.FlashRange.{FlashRange}
 use Rattle.transaction.specs.declared.session.CommandState.{CommandState}
 use Rattle.transaction.specs.declared.session.CommandState.the-variants as state
@@ -78,24 +68,6 @@ pub record OutcomeMeets (r : Outcome) (t : Turn) : Type 0 where
   pub tells : Answers (r .answer) (t .told)
   pub next : r .session ≡ t .next
   pub effect : r .effect ≡ t .effect
-
--- the outcomes as the code makes them
-abbrev pub refusedWith : LastReset → MockTransportError → Outcome
-refusedWith reset error =
-    record { answer = record { result = Refused error; signature = noSignature }; session = session state.None reset; effect = Nothing }
-
-abbrev pub settled : CommandState → LastReset → Effect → Outcome
-settled state reset effect = record { answer = record { result = Done; signature = noSignature }; session = session state reset; effect = effect }
-
-unfoldable pub blockResult : CommandAnswer → MockResult
-blockResult (Block c) = Done
-blockResult (answer.Refused error) = Refused (CommandBlockError error)
-
-abbrev pub blockAnswer : CommandParse → MockAnswer
-blockAnswer parse = record { result = blockResult (parse .answer); signature = parse .signature }
-
-abbrev pub blockRefused : LastReset → CommandParse → Outcome
-blockRefused reset parse = record { answer = blockAnswer parse; session = session state.None reset; effect = Nothing }
 
 -- chip info 16 bytes, flash id 5, flash info 11, capability 8; status 13
 unfoldable pub replySize : ReplyKind → ℕ

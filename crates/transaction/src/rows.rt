@@ -15,11 +15,12 @@ use codes::CommandCode;
 use codes::Direction;
 use protocol::CommandBlock;
 ghost use mathlib.Core.Path.{_≡_};
-ghost use Rattle.transaction.specs.Turn.{refusedWith, settled, hasCode, movedBy, OutcomeMeets};
+ghost use Rattle.transaction.specs.Turn.{hasCode, movedBy, OutcomeMeets};
+ghost use Rattle.transaction.specs.Code.{refusedWith, settled};
 ghost use Rattle.transaction.specs.Table.{sectorTurn};
 
 // A refusal ends the transaction.
-pub fn refuse(reset: LastReset, error: MockTransportError) -> Outcome
+pub(crate) fn refuse(reset: LastReset, error: MockTransportError) -> Outcome
     ensures { λ r. ⌜ r ≡ refusedWith reset error ⌝ }
 {
     Outcome {
@@ -35,7 +36,7 @@ pub fn refuse(reset: LastReset, error: MockTransportError) -> Outcome
     }
 }
 
-pub fn settle(state: CommandState, reset: LastReset, effect: Effect) -> Outcome
+pub(crate) fn settle(state: CommandState, reset: LastReset, effect: Effect) -> Outcome
     ensures { λ r. ⌜ r ≡ settled state reset effect ⌝ }
 {
     Outcome {
@@ -51,7 +52,7 @@ pub fn settle(state: CommandState, reset: LastReset, effect: Effect) -> Outcome
     }
 }
 
-pub fn has_code(command: CommandBlock, code: CommandCode) -> bool
+pub(crate) fn has_code(command: CommandBlock, code: CommandCode) -> bool
     ensures { λ r. ⌜ r ≡ hasCode command code ⌝ }
 {
     let own = command.cd_code;
@@ -68,7 +69,7 @@ fn moved_by(direction: Direction, range: FlashRange) -> Effect
 }
 
 // The data of a command over sectors: `actual` bytes into the flash or out of it.
-pub fn sector_io(
+pub(crate) fn sector_io(
     reset: LastReset,
     command: CommandBlock,
     direction: Direction,

@@ -21,7 +21,8 @@ use protocol::CommandAnswer;
 use protocol::CommandBlock;
 use protocol::CommandParse;
 ghost use mathlib.Core.Path.{_≡_};
-ghost use Rattle.transaction.specs.Turn.{isErase, OutcomeMeets, blockAnswer, blockRefused};
+ghost use Rattle.transaction.specs.Turn.{isErase, OutcomeMeets};
+ghost use Rattle.transaction.specs.Code.{blockAnswer, blockRefused};
 ghost use Rattle.transaction.specs.Table.{resetTurn, zeroLengthTurn, startTurn, writeIoTurn, writeTurn};
 ghost use Rattle.protocol.specs.CommandBytes.{readCommand};
 

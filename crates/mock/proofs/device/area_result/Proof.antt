@@ -2,7 +2,7 @@
 -- Assumes nothing.
 use mathlib.Core.Path.{ap, sym}
 use borrow.Author.Needs.{needs}
-use Rattle.mock.specs.Device.{areaResult}
+use Rattle.mock.specs.Code.{areaResult}
 use Rattle.mock.proofs.device.area_result.Statement.{statement}
 use Rattle.mock.proofs.device.area_result.Tie as tie
 

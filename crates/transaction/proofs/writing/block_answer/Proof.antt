@@ -2,7 +2,7 @@
 -- Assumes nothing.
 use mathlib.Core.Path.{ap}
 use borrow.Author.Needs.{needs}
-use Rattle.transaction.specs.Turn.{blockResult}
+use Rattle.transaction.specs.Code.{blockResult}
 use Rattle.transaction.proofs.writing.block_answer.Statement.{statement}
 use Rattle.transaction.proofs.writing.block_answer.Tie as tie
 

@@ -9,7 +9,7 @@ use Rattle.answer.specs.Told.{errorValues}
 use Rattle.answer.specs.declared.error.MockTransportError.the-variants.{OutOfRange, UnknownCommand}
 use Rattle.answer.specs.declared.range.FlashRange.{FlashRange}
 use Rattle.answer.proofs.Fitting.{within, outside}
-use Rattle.transaction.specs.Turn.{settled}
+use Rattle.transaction.specs.Code.{settled}
 use Rattle.transaction.specs.Table.{rangeOf, zeroLengthTurn}
 use Rattle.transaction.specs.declared.session.CommandState.the-variants.{Status}
 use Rattle.transaction.specs.declared.outcome.Effect.the-variants.{Fill}

@@ -1,0 +1,143 @@
+-- Programs that the contracts rule out, each at a named input: no proof can exist for them.
+use Prim.Native.Nat.{ℕ, suc}
+use mathlib.Core.Path.{_≡_, ap, sym, _∙_}
+use mathlib.Core.List.{List, [], _∷_}
+use native.Mathlib.Omega.{arith}
+use lib.ListN.{getD, replicate}
+use Rattle.wire.specs.Told.{number, andThen}
+use Rattle.wire.specs.Rules.{unless}
+use Rattle.lent.specs.Outcome.{orRefuse}
+use Rattle.lent.specs.Over.{over}
+use Rattle.codes.specs.Numbers.{resetNumber}
+use Rattle.codes.specs.declared.ResetOpcode.the-variants.{Reset, Maskrom}
+use Rattle.protocol.specs.Commands.{writeLbaCommand}
+use Rattle.protocol.specs.declared.CommandBlock.{CommandBlock}
+use Rattle.areas.specs.Slots.{freshAreas, passes, firstAt, heldAt, place, areaFound}
+use Rattle.areas.specs.Append.{heldBy, appendRules, appendedAt, appendStep}
+use Rattle.areas.specs.declared.AreaFound.{AreaFound}
+use Rattle.areas.specs.declared.AreaFound.the-variants.{NotHeld, Held}
+use Rattle.answer.specs.Flash.{flashRules, flashSectors, fitsIn}
+use Rattle.answer.specs.Told.{resultTold}
+use Rattle.transaction.specs.Turn.{refuses, done, hasCode, isOut, movedBy, replySize}
+use Rattle.transaction.specs.Table.{sectorTurn, writeIoTurn, writeRow, statusTurn, readRow}
+use Rattle.transaction.specs.declared.session.CommandState.{CommandState}
+use Rattle.transaction.specs.declared.session.CommandState.the-variants.{None, IO, Status}
+use Rattle.transaction.specs.declared.session.LastReset.{LastReset}
+use Rattle.transaction.specs.declared.session.LastReset.the-variants as reset
+use Rattle.identity.specs.declared.MockDeviceConfig.{MockDeviceConfig}
+use Rattle.effects.specs.Effects.{flashAfter}
+use Rattle.effects.specs.Steps.{writeStepOf, writeStep, readStepOf, readStep}
+use Rattle.mock.specs.Device.{MockMeets, CreateMeets, created, freshState, writeBulk, readBulk, isUpload, controlRules, writeControl, maskromArea}
+use Rattle.mock.specs.declared.device.MockState.{MockState}
+use Rattle.mock.specs.declared.device.MockStep.{MockStep}
+
+-- what is told by number
+abbrev told : MockStep → ℕ
+told r = number (resultTold (r .answer .result) (r .answer .signature))
+
+-- the transaction: 0 none, 1 awaiting data, 2 awaiting status; the last reset: its opcode's number, 5 for none
+abbrev stateNumber : CommandState → ℕ
+stateNumber None = 0
+stateNumber (IO c) = 1
+stateNumber (Status c) = 2
+
+abbrev waits : MockState → ℕ
+waits s = stateNumber (s .«current_command»)
+
+abbrev resetTold : LastReset → ℕ
+resetTold reset.None = 5
+resetTold (reset.Some opcode) = resetNumber opcode
+
+-- where an area was found, 0 for not held
+abbrev startOf : AreaFound → ℕ
+startOf NotHeld = 0
+startOf (Held start n) = start
+
+-- a flash of one sector, a sector of ones, a store of 72 bytes, and a command that writes sector 0
+abbrev flash : List ℕ
+flash = replicate 512 0
+
+abbrev ones : List ℕ
+ones = replicate 512 1
+
+abbrev store : List ℕ
+store = replicate 72 0
+
+abbrev command : CommandBlock
+command = writeLbaCommand 1 0 1
+
+module _ (config : MockDeviceConfig) where
+  -- a device with a store of 72 bytes, whose second slot is held by area 5 with three bytes
+  abbrev device : CommandState → LastReset → MockState
+  device state last =
+      record { config = config; areas = heldBy freshAreas 1 5 3; «store_length» = 72; «last_reset» = last; «current_command» = state }
+
+  -- `MockState::new`: the flash measured for the store
+  pub flash-measured-for-the-store : (r : MockStep) → r .state .«store_length» ≡ 512 → CreateMeets r (created config 512 72) → ⊥
+  unfolding created freshState
+  flash-measured-for-the-store r e meets =
+      let z : _≡_ {A = ℕ} 512 72 = sym e ∙ ap (λ (s : MockState). s .«store_length») (meets .fresh) in omega arith
+
+  -- 60 not told
+  pub flash-length-not-told : (r : MockStep) → told r ≡ 0 → CreateMeets r (created config 513 72) → ⊥
+  unfolding created number andThen flashSectors flashRules unless
+  flash-length-not-told r e meets = let z : _≡_ {A = ℕ} 0 60 = sym e ∙ ap number (meets .tells .tells) in omega arith
+
+  module _ (last : LastReset) where
+    -- `MockState::write_bulk`: nothing written
+    pub write-does-nothing : (r : MockStep) → MockMeets r flash (writeBulk (device (IO command) last) flash ones) → ⊥
+    unfolding writeBulk writeStep writeStepOf flashSectors flashRules unless writeRow writeIoTurn sectorTurn orRefuse isOut hasCode fitsIn done movedBy flashAfter over
+    write-does-nothing r meets = let z : _≡_ {A = ℕ} 0 1 = ap (λ (l : List ℕ). getD l 0 0) (meets .leaves) in omega arith
+
+    -- the transaction kept
+    pub write-keeps-transaction : (r : MockStep) (after : List ℕ) → r .state ≡ device (Status command) last
+        → MockMeets r after (writeBulk (device (Status command) last) flash ones) → ⊥
+    unfolding writeBulk writeStep writeStepOf flashSectors flashRules unless writeRow refuses
+    write-keeps-transaction r after e meets = let z : _≡_ {A = ℕ} 2 0 = sym (ap waits e) ∙ ap waits (meets .next) in omega arith
+
+    -- `MockState::read_bulk`: the transaction kept
+    pub read-keeps-transaction : (r : MockStep) (after : List ℕ) → r .state ≡ device (Status command) last
+        → MockMeets r after (readBulk (device (Status command) last) flash []) → ⊥
+    unfolding readBulk readStep readStepOf flashSectors flashRules unless readRow statusTurn orRefuse replySize refuses
+    read-keeps-transaction r after e meets = let z : _≡_ {A = ℕ} 2 0 = sym (ap waits e) ∙ ap waits (meets .next) in omega arith
+
+    -- `MockState::write_control`: another request type taken
+    pub another-request-type : (r : MockStep) (after : List ℕ) → told r ≡ 0 → MockMeets r after (writeControl (device None last) 0xC0 0xC 0 5 [] store) → ⊥
+    unfolding number writeControl controlRules isUpload orRefuse
+    another-request-type r after e meets = let z : _≡_ {A = ℕ} 0 51 = sym e ∙ ap number (meets .tells .tells) in omega arith
+
+    -- 65 not told: a store of another length taken
+    pub another-store-taken : (r : MockStep) (after : List ℕ) → told r ≡ 0 → MockMeets r after (writeControl (device None last) 0x40 0xC 0 5 [] []) → ⊥
+    unfolding number writeControl controlRules orRefuse
+    another-store-taken r after e meets = let z : _≡_ {A = ℕ} 0 65 = sym e ∙ ap number (meets .tells .tells) in omega arith
+
+    -- always refusing
+    pub control-always-refusing : (r : MockStep) (after : List ℕ) (n : ℕ) → told r ≡ suc n
+        → MockMeets r after (writeControl (device None last) 0x40 0xC 0 5 (7 ∷ []) store) → ⊥
+    unfolding number writeControl controlRules isUpload orRefuse appendStep appendRules appendedAt place heldBy freshAreas heldAt firstAt passes
+    control-always-refusing r after n e meets = let z : suc n ≡ 0 = sym e ∙ ap number (meets .tells .tells) in omega arith
+
+    -- `MockState::maskrom_area`: one area for all
+    pub one-area-for-all : (r : AreaFound) → r ≡ maskromArea (device None last) 5 → r ≡ maskromArea (device None last) 6 → ⊥
+    unfolding areaFound heldBy freshAreas heldAt firstAt passes
+    one-area-for-all r first second = let z : _≡_ {A = ℕ} 9 0 = ap startOf (sym first ∙ second) in omega arith
+
+    -- slots of another store: of 72 bytes the second slot starts at 9
+    pub another-store : (n : ℕ) → Held 0 n ≡ maskromArea (device None last) 5 → ⊥
+    unfolding areaFound heldBy freshAreas heldAt firstAt passes
+    another-store n e = let z : _≡_ {A = ℕ} 0 9 = ap startOf e in omega arith
+
+  -- `MockState::read_bulk`: the reset forgotten
+  pub read-forgets-reset : (r : MockStep) (after : List ℕ) → r .state .«last_reset» ≡ reset.None
+      → MockMeets r after (readBulk (device None (reset.Some Maskrom)) flash []) → ⊥
+  unfolding readBulk readStep readStepOf flashSectors flashRules unless readRow refuses
+  read-forgets-reset r after e meets =
+      let z : _≡_ {A = ℕ} 5 3 = sym (ap resetTold e) ∙ ap (λ (s : MockState). resetTold (s .«last_reset»)) (meets .next) in omega arith
+
+  -- `MockState::last_reset`: one fixed answer
+  pub one-fixed-reset : (r : LastReset) → r ≡ device None reset.None .«last_reset» → r ≡ device None (reset.Some Maskrom) .«last_reset» → ⊥
+  one-fixed-reset r first second = let z : _≡_ {A = ℕ} 5 3 = ap resetTold (sym first ∙ second) in omega arith
+
+  -- another reset than the last
+  pub another-reset : (r : LastReset) → r ≡ reset.Some Reset → r ≡ device None (reset.Some Maskrom) .«last_reset» → ⊥
+  another-reset r first second = let z : _≡_ {A = ℕ} 0 3 = ap resetTold (sym first ∙ second) in omega arith
