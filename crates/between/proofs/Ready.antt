@@ -17,7 +17,7 @@ use Rattle.mock.specs.declared.device.MockState.{MockState}
 use Rattle.identity.specs.Config.{defaultConfig}
 use Rattle.mock.specs.Device.{freshState}
 use Rattle.turns.specs.Turn.{usbState}
-use Rattle.loading.specs.Load.{wholeBudget}
+use Rattle.loading.specs.Load.{uploadBudget}
 use Rattle.landing.proofs.Stands.{Standing, operation-stands, upload-stands}
 use Rattle.landing.proofs.Idle.{whole-idle}
 use Rattle.landing.proofs.Keeps.{upload-keeps}
@@ -45,9 +45,9 @@ module _ (sectors : ℕ) (h : Head) (ready : Ready sectors h) where
   loaded : (area : ℕ) (checked : Bool) (image : List ℕ) → Ready sectors (load area checked image h .leaves)
   unfolding loadOf
   loaded area checked image =
-      let keeps = upload-keeps area checked image (length (h .flash)) (h .device) (h .store) (wholeBudget (length image)) in
+      let keeps = upload-keeps area checked image (length (h .flash)) (h .device) (h .store) (uploadBudget (length image)) in
       record {
-        stands = upload-stands (h .device) (h .flash) sectors area checked image (h .store) (wholeBudget (length image)) (ready .stands);
+        stands = upload-stands (h .device) (h .flash) sectors area checked image (h .store) (uploadBudget (length image)) (ready .stands);
         sized = subst Sized (sym (ap (λ (d : MockState). d .config) (keeps .same))) (ready .sized);
       }
 

@@ -33,7 +33,7 @@ operate op bytes h =
 unfoldable pub loadOf : WholeUpload → List ℕ → Head → Deal
 loadOf upload image h =
     loadedBy
-    (loading.loadRun image (length (h .flash)) (loading.wholeBudget (upload .length)) (loading.loadState upload (h .device) (h .store)))
+    (loading.loadRun image (length (h .flash)) (loading.uploadBudget (upload .length)) (loading.loadState upload (h .device) (h .store)))
     (h .flash)
 
 abbrev pub load : ℕ → Bool → List ℕ → Head → Deal

@@ -22,7 +22,8 @@ use Rattle.status.specs.declared.failure.UsbOperationError.the-variants.{TagMis
 use Rattle.reply.specs.Media.{storageTold, readStorage}
 use Rattle.reply.specs.declared.media.StorageAnswer.{StorageAnswer}
 use Rattle.finish.specs.declared.Kind.{Kind}
-use Rattle.finish.specs.Reply.{Reply, storage, moved, finishTold, blank, besideOf, failedWith, FinishMeets}
+use Rattle.finish.specs.Reply.{Reply, storage, moved, finishTold, blank, besideOf, FinishMeets}
+use Rattle.finish.specs.Code.{failedWith}
 use Rattle.finish.specs.Finish.{failed, failedStatus, tagMismatch, movedOf, sectorReply, storageReply, replyOf, judged, finishes}
 
 -- a refusal with no values

@@ -8,9 +8,6 @@ use Rattle.wire.specs.Told.{Told, given, refused}
 use Rattle.codes.specs.declared.StorageIndex.{StorageIndex}
 use Rattle.block.specs.Signature.{noSignature, signatureIn}
 use Rattle.status.specs.Failure.{failureTold}
-use Rattle.status.specs.declared.failure.UsbOperationError.{UsbOperationError}
-use Rattle.status.specs.declared.report.StatusAnswer.{StatusAnswer}
-use Rattle.status.specs.declared.report.StatusAnswer.the-variants.{Block, Refused}
 use Rattle.reply.specs.declared.info.ChipInfo.{ChipInfo}
 use Rattle.reply.specs.declared.info.FlashId.{FlashId}
 use Rattle.reply.specs.declared.info.FlashInfo.{FlashInfo}
@@ -84,18 +81,7 @@ unfoldable pub besideOf : Told Reply → Beside
 besideOf (given reply) = besideReply reply
 besideOf (refused n values) = blank (signatureIn {A = Reply} badSignature (refused n values))
 
-abbrev pub failedWith : UsbOperationError → List ℕ → Finished
-failedWith error s = record { answer = Failed error; beside = blank s }
-
-abbrev pub repliedWith : UsbReply → Beside → Finished
-repliedWith reply b = record { answer = Replied reply; beside = b }
-
 -- a finish that answers r where `told` is right
 pub record FinishMeets (r : Finished) (told : Told Reply) : Type 0 where
   pub tells : finishTold (r .answer) (r .beside) ≡ told
   pub beside : r .beside ≡ besideOf told
-
--- the status was not read
-unfoldable pub IsRefused : StatusAnswer → Type 0
-IsRefused (Block s) = ⊥
-IsRefused (Refused error) = Unit

@@ -15,12 +15,14 @@ use status::report::StatusAnswer;
 ghost use mathlib.Core.Path.{_≡_};
 ghost use Prim.Native.Nat.{_≤_};
 ghost use lib.ListN.{length, take};
-ghost use Rattle.wire.specs.Told.{Told, andThen};
+ghost use Rattle.wire.specs.Told.{Told, number, andThen};
 ghost use Rattle.block.specs.Signature.{noSignature, signatureIn};
 ghost use Rattle.status.specs.Failure.{atFinish};
 ghost use Rattle.status.specs.StatusMeets.{statusTold};
 ghost use Rattle.status.specs.declared.report.CommandStatus.{CommandStatus};
-ghost use Rattle.finish.specs.Reply.{Reply, noChipInfo, noFlashId, noFlashInfo, noCapability, besides, blank, failedWith, repliedWith, IsRefused, FinishMeets};
+ghost use Rattle.finish.specs.declared.Beside.{Beside};
+ghost use Rattle.finish.specs.Reply.{Reply, finishTold, noChipInfo, noFlashId, noFlashInfo, noCapability, besides, blank, FinishMeets};
+ghost use Rattle.finish.specs.Code.{failedWith, repliedWith, IsRefused};
 ghost use Rattle.finish.specs.Finish.{storageReply, sectorReply, replyOf, finishes};
 
 // What an operation ends with: one for each kind of reply, and the two over sectors.
@@ -49,6 +51,18 @@ pub enum UsbReply {
 pub enum FinishAnswer {
     Replied(UsbReply),
     Failed(UsbOperationError),
+}
+
+impl FinishAnswer {
+    // The document's number: 0 for a reply, 10 to 15.
+    pub fn number(self) -> u8
+        ensures { λ r. ⌜ ((b : Beside) → r ≡ number (finishTold self b)) ⌝ }
+    {
+        match self {
+            FinishAnswer::Replied(_) => 0,
+            FinishAnswer::Failed(error) => error.number(),
+        }
+    }
 }
 
 // What no enum can hold. Each is zeros where it is not the answer.

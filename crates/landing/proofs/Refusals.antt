@@ -26,7 +26,7 @@ use Rattle.answer.specs.declared.range.FlashSectors.the-variants as size
 use Rattle.mock.specs.declared.device.MockState.{MockState}
 use Rattle.mock.specs.Device.{Call, isUpload, controlRules, withAreas, writeControl}
 use Rattle.budget.specs.Run.{endTold, Ran, runs}
-use Rattle.loading.specs.Load.{LoadState, loadState, loadTurn, wholeBudget}
+use Rattle.loading.specs.Load.{LoadState, loadState, loadTurn, uploadBudget}
 use Rattle.loading.proofs.Checks.{unrefused}
 use Rattle.landing.proofs.Loads.{Loads, spent, finished, stopped, sent-on, written, uploadRun, fresh-loads}
 use Rattle.landing.proofs.Steps.{whole-many}
@@ -91,5 +91,5 @@ module _ (area : ℕ) (checked : Bool) (image : List ℕ) (flash : ℕ) (device 
       (loads-told area (cut (uploadBytes checked image)) budget device store (runs (loadTurn image) budget s) (fresh-loads area checked image budget device store) long
       (omega (arith, cut-many (uploadBytes checked image))))
 
-  pub whole-upload-told : UploadTold (endTold (uploadRun area checked image flash device store (wholeBudget (length image)) .end))
-  whole-upload-told = upload-told (wholeBudget (length image)) (whole-many checked image)
+  pub whole-upload-told : UploadTold (endTold (uploadRun area checked image flash device store (uploadBudget (length image)) .end))
+  whole-upload-told = upload-told (uploadBudget (length image)) (whole-many checked image)

@@ -16,7 +16,7 @@ use Rattle.upload.proofs.Cutting.{cut-many}
 use Rattle.upload.proofs.Ending.{ending, upload-ending, ending-few}
 use Rattle.mock.specs.declared.device.MockState.{MockState}
 use Rattle.budget.specs.Run.{End, tells, outOfSteps, Ran, runs}
-use Rattle.loading.specs.Load.{LoadState, loadState, loadTurn, loadRules, unstarted, loadRun, wholeBudget}
+use Rattle.loading.specs.Load.{LoadState, loadState, loadTurn, loadRules, unstarted, loadRun, uploadBudget}
 use Rattle.landing.proofs.Loads.{Loads, spent, finished, stopped, sent-on, uploadRun, fresh-loads}
 
 -- an end is one of the two, and what is told is given or refused
@@ -76,13 +76,13 @@ module _ (area : ℕ) (checked : Bool) (image : List ℕ) (flash : ℕ) (device 
       (omega (arith, cut-many (uploadBytes checked image))))
 
 -- four bytes at most follow the image
-pub whole-many : (checked : Bool) (image : List ℕ) → length (uploadBytes checked image) / blockSize + 2 ≤ wholeBudget (length image)
+pub whole-many : (checked : Bool) (image : List ℕ) → length (uploadBytes checked image) / blockSize + 2 ≤ uploadBudget (length image)
 whole-many checked image =
     let tail = ending checked (register checked start image) (length image) in
     omega (arith, ap length (upload-ending checked image) ∙ length-append image tail, ending-few checked (register checked start image) (length image))
 
 -- .. and so one whole upload never ends in 28
 pub whole-upload-ends : (area : ℕ) (checked : Bool) (image : List ℕ) (flash : ℕ) (device : MockState) (store : List ℕ)
-    → uploadRun area checked image flash device store (wholeBudget (length image)) .end ≡ outOfSteps → ⊥
+    → uploadRun area checked image flash device store (uploadBudget (length image)) .end ≡ outOfSteps → ⊥
 whole-upload-ends area checked image flash device store =
-    enough-steps area checked image flash device store (wholeBudget (length image)) (whole-many checked image)
+    enough-steps area checked image flash device store (uploadBudget (length image)) (whole-many checked image)

@@ -18,11 +18,12 @@ use Rattle.mock.specs.declared.device.MockStep.{MockStep}
 use Rattle.mock.specs.Device.{Call, MockMeets, writeControl}
 use Rattle.budget.specs.Run.{Turned, ends, goes}
 use Rattle.loading.specs.Load.{LoadState, loadState, onward, carried, carries, loadTurn}
-use Rattle.loading.specs.Answers.{stopTold, turnTold, afterResult, afterControl, TurnMeets}
+use Rattle.loading.specs.Answers.{loadStopTold, turnTold, TurnMeets}
+use Rattle.loading.specs.Code.{afterResult, afterControl}
 
 -- what the device answered decides whether the run goes on
 after-told : (r : MockResult) (s : LoadState) → turnTold (afterResult r) s ≡ onward (resultTold r noSignature) s
-unfolding turnTold afterResult onward resultTold stopTold
+unfolding turnTold afterResult onward resultTold loadStopTold
 after-told result.Done s = refl
 after-told (result.Refused error) s = refl
 

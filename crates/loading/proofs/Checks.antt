@@ -3,11 +3,11 @@
 use Prim.Native.Nat.{ℕ, _/_}
 use mathlib.Core.Path.{_≡_, refl, ap, sym, subst, _∙_}
 use mathlib.Core.Bool.{not}
-use mathlib.Core.List.{List, [], _∷_, _++_}
+use mathlib.Core.List.{List, [], _∷_}
 use lib.Dec.{eqb}
 use lib.ListN.{length}
 use borrow.Author.Tests.{eq-eqb, ne-eqb}
-use Rattle.wire.specs.Told.{Told, given, refused}
+use Rattle.wire.specs.Told.{refused}
 use Rattle.wire.specs.Rules.{Rule, rule}
 use Rattle.lent.specs.Outcome.{orRefuse}
 use Rattle.lent.proofs.Outcome.{unmet-first, met-first}
@@ -19,15 +19,17 @@ use Rattle.answer.specs.Flash.{flashRules, flashSectors, sizeTold}
 use Rattle.answer.specs.declared.error.MockTransportError.{MockTransportError}
 use Rattle.answer.specs.declared.range.FlashSectors.{FlashSectors}
 use Rattle.answer.specs.declared.range.FlashSectors.the-variants as size
+use Rattle.mock.specs.Device.{storeRule}
 use Rattle.budget.specs.Run.{Ran, tells, runs}
 use Rattle.loading.specs.declared.LoadStop.{LoadStop}
 use Rattle.loading.specs.declared.LoadAnswer.the-variants as answer
 use Rattle.loading.specs.declared.LoadRun.{LoadRun}
-use Rattle.loading.specs.Load.{LoadState, loadState, loadTurn, loadRules, unstarted, loadRun}
-use Rattle.loading.specs.Answers.{stopTold, answerEnd, runBy, RunMeets}
+use Rattle.loading.specs.Load.{LoadState, loadTurn, loadRules, unstarted, loadRun}
+use Rattle.loading.specs.Answers.{loadStopTold, answerEnd, RunMeets}
+use Rattle.loading.specs.Code.{runBy}
 
 -- a run that stops before its first step
-pub stopped : (stop : LoadStop) (s : LoadState) (n : ℕ) (values : List ℕ) → stopTold stop ≡ refused n values
+pub stopped : (stop : LoadStop) (s : LoadState) (n : ℕ) (values : List ℕ) → loadStopTold stop ≡ refused n values
     → RunMeets (runBy (answer.Ended stop) 0 (s .upload) (s .device)) (s .store) (unstarted s n values)
 unfolding answerEnd
 stopped stop s n values e = record { tells = ap tells e; steps = refl; leaves = refl }
@@ -39,7 +41,7 @@ as-run r made store run comes e f m =
 
 module _ (image : List ℕ) (flash budget : ℕ) (s : LoadState) where
   abbrev late : List Rule
-  late = rule (not (eqb (length (s .store)) (s .device .«store_length»))) 65 [] ∷ rule (not (eqb (length image) (s .upload .length))) differs [] ∷ []
+  late = storeRule (s .device) (length (s .store)) ∷ rule (not (eqb (length image) (s .upload .length))) differs [] ∷ []
 
   pub flash-refused : (sectors : FlashSectors) (e : MockTransportError) → sizeTold sectors ≡ flashSectors flash → sectors ≡ size.Refused e
       → loadRun image flash budget s ≡ unstarted s (errorNumber e) (errorValues e noSignature)

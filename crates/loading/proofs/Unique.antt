@@ -24,7 +24,7 @@ use Rattle.loading.specs.declared.LoadAnswer.the-variants as answer
 use Rattle.loading.specs.declared.LoadTurned.{LoadTurned}
 use Rattle.loading.specs.declared.LoadRun.{LoadRun}
 use Rattle.loading.specs.Load.{LoadState, loadState}
-use Rattle.loading.specs.Answers.{stopTold, turnTold, answerEnd, TurnMeets, RunMeets}
+use Rattle.loading.specs.Answers.{loadStopTold, turnTold, answerEnd, TurnMeets, RunMeets}
 
 unfoldable stopBy : MockResult → LoadStop
 stopBy result.Done = stop.Finished
@@ -50,8 +50,8 @@ apart (error.FlashSize n) = (refl, refl)
 apart error.TooManySectors = (refl, refl)
 apart error.StoreLength = (refl, refl)
 
-stop-for : (s : LoadStop) → stopFor (stopTold s) ≡ s
-unfolding stopFor stopTold stopBy resultTold
+stop-for : (s : LoadStop) → stopFor (loadStopTold s) ≡ s
+unfolding stopFor loadStopTold stopBy resultTold
 stop-for stop.Finished = refl
 stop-for (stop.Device e) = rw (apart e .0, apart e .1) (ap stopBy (result-from (result.Refused e) noSignature))
 stop-for stop.OutputTooShort = refl
@@ -61,7 +61,7 @@ unfoldable turnFor : Turned Unit LoadState → LoadTurn
 turnFor (goes s) = turn.Goes
 turnFor (ends told s) = turn.Ends (stopFor told)
 
-unfoldable stateFor : Turned Unit LoadState → LoadState
+unfoldable pub stateFor : Turned Unit LoadState → LoadState
 stateFor (goes s) = s
 stateFor (ends told s) = s
 
@@ -70,7 +70,7 @@ unfolding turnFor turnTold
 turn-for turn.Goes s = refl
 turn-for (turn.Ends x) s = ap turn.Ends (stop-for x)
 
-state-for : (t : LoadTurn) (s : LoadState) → stateFor (turnTold t s) ≡ s
+pub state-for : (t : LoadTurn) (s : LoadState) → stateFor (turnTold t s) ≡ s
 unfolding stateFor turnTold
 state-for turn.Goes s = refl
 state-for (turn.Ends x) s = refl

@@ -6,13 +6,8 @@ use mathlib.Core.List.{List, []}
 use Rattle.wire.specs.Told.{Told, given, refused}
 use Rattle.block.specs.Signature.{noSignature}
 use Rattle.transfer.specs.Sending.{tooShort}
-use Rattle.maskrom.specs.declared.WholeUpload.{WholeUpload}
 use Rattle.maskrom.specs.Answers.{differs}
 use Rattle.answer.specs.Told.{errorTold}
-use Rattle.answer.specs.declared.error.MockResult.{MockResult}
-use Rattle.answer.specs.declared.error.MockResult.the-variants as result
-use Rattle.mock.specs.declared.device.MockState.{MockState}
-use Rattle.mock.specs.declared.device.MockStep.{MockStep}
 use Rattle.budget.specs.Run.{Turned, ends, goes, End, tells, outOfSteps, Ran}
 use Rattle.loading.specs.declared.LoadStop.{LoadStop}
 use Rattle.loading.specs.declared.LoadStop.the-variants as stop
@@ -25,18 +20,18 @@ use Rattle.loading.specs.declared.LoadRun.{LoadRun}
 use Rattle.loading.specs.Load.{LoadState, loadState}
 
 -- the finish, the device's refusal, or a step's
-unfoldable pub stopTold : LoadStop → Told Unit
-stopTold stop.Finished = given tt
-stopTold (stop.Device error) = errorTold error noSignature
-stopTold stop.OutputTooShort = refused tooShort []
-stopTold stop.ImageDiffers = refused differs []
+unfoldable pub loadStopTold : LoadStop → Told Unit
+loadStopTold stop.Finished = given tt
+loadStopTold (stop.Device error) = errorTold error noSignature
+loadStopTold stop.OutputTooShort = refused tooShort []
+loadStopTold stop.ImageDiffers = refused differs []
 
 unfoldable pub turnTold : LoadTurn → LoadState → Turned Unit LoadState
 turnTold turn.Goes s = goes s
-turnTold (turn.Ends stop) s = ends (stopTold stop) s
+turnTold (turn.Ends stop) s = ends (loadStopTold stop) s
 
 unfoldable pub answerEnd : LoadAnswer → End Unit
-answerEnd (answer.Ended stop) = tells (stopTold stop)
+answerEnd (answer.Ended stop) = tells (loadStopTold stop)
 answerEnd answer.OutOfSteps = outOfSteps
 
 -- a turn that answers r and leaves the store so
@@ -48,17 +43,3 @@ pub record RunMeets (r : LoadRun) (store : List ℕ) (run : Ran Unit LoadState) 
   pub tells : answerEnd (r .answer) ≡ run .end
   pub steps : r .steps ≡ run .steps
   pub leaves : loadState (r .upload) (r .device) store ≡ run .state
-
--- the records as the code makes them
-abbrev pub turnedBy : LoadTurn → WholeUpload → MockState → LoadTurned
-turnedBy turn upload device = record { turn = turn; upload = upload; device = device }
-
-abbrev pub runBy : LoadAnswer → ℕ → WholeUpload → MockState → LoadRun
-runBy answer steps upload device = record { answer = answer; steps = steps; upload = upload; device = device }
-
-unfoldable pub afterResult : MockResult → LoadTurn
-afterResult result.Done = turn.Goes
-afterResult (result.Refused error) = turn.Ends (stop.Device error)
-
-abbrev pub afterControl : WholeUpload → MockStep → LoadTurned
-afterControl upload sent = turnedBy (afterResult (sent .answer .result)) upload (sent .state)

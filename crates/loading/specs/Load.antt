@@ -15,7 +15,7 @@ use Rattle.maskrom.specs.Answers.{Asks, writes, finish, differs}
 use Rattle.maskrom.specs.Whole.{wholeStep}
 use Rattle.answer.specs.Flash.{flashRules}
 use Rattle.mock.specs.declared.device.MockState.{MockState}
-use Rattle.mock.specs.Device.{Call, writeControl}
+use Rattle.mock.specs.Device.{Call, writeControl, storeRule}
 use Rattle.budget.specs.Run.{Turned, ends, goes, Ran, ran, tells, runs}
 
 -- the upload, the device, and the store that is lent
@@ -52,7 +52,7 @@ loadTurn image s =
 unfoldable pub loadRules : LoadState → ℕ → ℕ → List Rule
 loadRules s flash image =
     flashRules flash
-    ++ (rule (not (eqb (length (s .store)) (s .device .«store_length»))) 65 [] ∷ rule (not (eqb image (s .upload .length))) differs [] ∷ [])
+    ++ (storeRule (s .device) (length (s .store)) ∷ rule (not (eqb image (s .upload .length))) differs [] ∷ [])
 
 -- a refusal before the first step takes none and changes nothing
 abbrev pub unstarted : LoadState → ℕ → List ℕ → Ran Unit LoadState
@@ -62,5 +62,5 @@ unfoldable pub loadRun : List ℕ → ℕ → ℕ → LoadState → Ran Unit Loa
 loadRun image flash budget s = orRefuse (unstarted s) (loadRules s flash (length image)) (runs (loadTurn image) budget s)
 
 -- what is enough for an upload of n bytes from its start: floor(T/4,096)+2, and T is at most n + 4
-abbrev pub wholeBudget : ℕ → ℕ
-wholeBudget n = n / blockSize + 3
+abbrev pub uploadBudget : ℕ → ℕ
+uploadBudget n = n / blockSize + 3

@@ -2,10 +2,12 @@
 ghost use mathlib.Core.Path.{_≡_};
 ghost use Prim.Native.Nat.{_≤_};
 ghost use lib.ListN.{length, take};
-ghost use Rattle.budget.specs.Run.{runs};
-ghost use Rattle.loading.specs.Load.{loadState, carried, loadTurn, loadRun, wholeBudget};
+ghost use Rattle.wire.specs.Told.{number};
+ghost use Rattle.budget.specs.Run.{endTold, runs};
+ghost use Rattle.loading.specs.Load.{loadState, carried, loadTurn, loadRun, uploadBudget};
 ghost use Rattle.mock.specs.Device.{writeControl};
-ghost use Rattle.loading.specs.Answers.{TurnMeets, RunMeets, turnedBy, runBy, afterControl};
+ghost use Rattle.loading.specs.Answers.{loadStopTold, answerEnd, TurnMeets, RunMeets};
+ghost use Rattle.loading.specs.Code.{turnedBy, runBy, afterControl};
 use answer::error::MockResult;
 use answer::error::MockTransportError;
 use answer::range::FlashSectors;
@@ -27,6 +29,20 @@ pub enum LoadStop {
     ImageDiffers,
 }
 
+impl LoadStop {
+    // The document's number, 0 for the finish.
+    pub fn number(self) -> u8
+        ensures { λ r. ⌜ r ≡ number (loadStopTold self) ⌝ }
+    {
+        match self {
+            LoadStop::Finished => 0,
+            LoadStop::Device(error) => error.number(),
+            LoadStop::OutputTooShort => 20,
+            LoadStop::ImageDiffers => 27,
+        }
+    }
+}
+
 // What one step and its transfer come to.
 pub enum LoadTurn {
     Goes,
@@ -43,6 +59,18 @@ pub enum LoadAnswer {
     Ended(LoadStop),
     // 28
     OutOfSteps,
+}
+
+impl LoadAnswer {
+    // The document's number, 0 for the finish.
+    pub fn number(self) -> u8
+        ensures { λ r. ⌜ r ≡ number (endTold (answerEnd self)) ⌝ }
+    {
+        match self {
+            LoadAnswer::Ended(stop) => stop.number(),
+            LoadAnswer::OutOfSteps => 28,
+        }
+    }
 }
 
 pub struct LoadRun {
@@ -212,7 +240,7 @@ pub fn run_whole_upload(
     store: &mut [u8],
     image: &[u8],
 ) -> LoadRun
-    ensures { λ r. ⌜ RunMeets r (now (store .exit)) (loadRun (now (image .entry)) (length (now (flash .entry))) (wholeBudget (upload .length)) (loadState upload device (now (store .entry)))) ⌝ }
+    ensures { λ r. ⌜ RunMeets r (now (store .exit)) (loadRun (now (image .entry)) (length (now (flash .entry))) (uploadBudget (upload .length)) (loadState upload device (now (store .entry)))) ⌝ }
 {
     let budget = upload.length / 4096 + 3;
     run_upload(upload, device, flash, store, image, budget)

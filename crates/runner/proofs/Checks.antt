@@ -2,14 +2,13 @@
 -- Assumes nothing.
 use Prim.Native.Nat.{ℕ, _/_, _<_, _≤_}
 use mathlib.Core.Path.{_≡_, refl, ap, sym, subst, _∙_}
-use mathlib.Core.Bool.{Bool, true, false, not}
-use mathlib.Core.List.{List, [], _∷_, _++_}
+use mathlib.Core.Bool.{Bool, true, false}
+use mathlib.Core.List.{List, [], _∷_}
 use native.Mathlib.Omega.{arith}
-use lib.Dec.{eqb, ltb}
 use lib.ListN.{length}
 use borrow.Author.Tests.{eq-eqb, ne-eqb, lt-ltb, le-ltb}
-use Rattle.wire.specs.Told.{Told, given, refused}
-use Rattle.wire.specs.Rules.{Rule, rule, pick}
+use Rattle.wire.specs.Told.{given}
+use Rattle.wire.specs.Rules.{Rule, pick}
 use Rattle.lent.specs.Outcome.{orRefuse}
 use Rattle.lent.proofs.Outcome.{unmet-first, met-first}
 use Rattle.block.specs.Signature.{noSignature, signatureIn}
@@ -17,7 +16,7 @@ use Rattle.block.specs.Sector.{sectorSize}
 use Rattle.protocol.specs.CommandMeets.{commandErrorNumber, commandErrorValues}
 use Rattle.protocol.specs.declared.CommandBlockParseError.{CommandBlockParseError}
 use Rattle.protocol.specs.declared.CommandBlockParseError.the-variants as block
-use Rattle.answer.specs.Told.{errorNumber, errorValues, errorTold, innerSignature, signatureBeside}
+use Rattle.answer.specs.Told.{errorNumber, errorValues, innerSignature, signatureBeside}
 use Rattle.answer.specs.Flash.{flashRules, flashSectors, sizeTold}
 use Rattle.answer.specs.declared.error.MockTransportError.{MockTransportError}
 use Rattle.answer.specs.declared.error.MockTransportError.the-variants as error
@@ -26,16 +25,17 @@ use Rattle.answer.specs.declared.range.FlashSectors.the-variants as size
 use Rattle.finish.specs.Reply.{Reply, blank}
 use Rattle.steps.specs.declared.UsbOperation.{UsbOperation}
 use Rattle.steps.specs.Record.{transferLength}
-use Rattle.steps.specs.Step.{differs}
+use Rattle.steps.specs.Step.{differs, dataRule}
 use Rattle.mock.specs.declared.device.MockState.{MockState}
+use Rattle.mock.specs.Device.{storeRule}
 use Rattle.budget.specs.Run.{Ran, runs}
-use Rattle.turns.specs.declared.Stop.{Stop}
 use Rattle.turns.specs.declared.Stop.the-variants as stop
 use Rattle.turns.specs.Turn.{UsbState, usbState, usbTurn}
 use Rattle.turns.specs.Answers.{stopTold, signatureTold, besideTold}
 use Rattle.runner.specs.declared.UsbRun.{UsbRun}
-use Rattle.runner.specs.Run.{sectorData, storeDiffers, runRules, unstarted, usbRun}
-use Rattle.runner.specs.Answers.{answerEnd, besideEnd, unstartedBy, RunMeets}
+use Rattle.runner.specs.Run.{sectorData, runRules, unstarted, usbRun}
+use Rattle.runner.specs.Answers.{answerEnd, besideEnd, RunMeets}
+use Rattle.runner.specs.Code.{unstartedBy}
 
 inner-none : (e : CommandBlockParseError) → signatureTold 56 (commandErrorNumber e ∷ commandErrorValues e noSignature) ≡ noSignature
 unfolding signatureTold signatureBeside innerSignature signatureIn commandErrorNumber commandErrorValues
@@ -75,8 +75,8 @@ module _ (op : UsbOperation) (device : MockState) (flash bytes : List ℕ) where
 module _ (s : UsbState) (store budget : ℕ) where
   abbrev late : List Rule
   late =
-      rule (not (eqb store (s .device .«store_length»))) storeDiffers []
-      ∷ rule (ltb (length (s .«data»)) (sectorData (s .operation .kind) (transferLength (s .operation)))) differs []
+      storeRule (s .device) store
+      ∷ dataRule (length (s .«data»)) (sectorData (s .operation .kind) (transferLength (s .operation)))
       ∷ []
 
   pub flash-refused : (e : MockTransportError) → sizeTold (size.Refused e) ≡ flashSectors (length (s .flash))
@@ -90,7 +90,7 @@ module _ (s : UsbState) (store budget : ℕ) where
     unfolding usbRun runRules flashSectors
     met = met-first (unstarted s) (flashRules (length (s .flash))) late (length (s .flash) / sectorSize) sectors (runs usbTurn budget s) h
 
-    pub store-refused : (store ≡ s .device .«store_length» → ⊥) → usbRun s store budget ≡ unstarted s storeDiffers []
+    pub store-refused : (store ≡ s .device .«store_length» → ⊥) → usbRun s store budget ≡ unstarted s 65 []
     unfolding orRefuse
     store-refused n = met ∙ rw (ne-eqb store (s .device .«store_length») n)
 

@@ -7,9 +7,6 @@ use Rattle.block.specs.Signature.{noSignature}
 use Rattle.finish.specs.Reply.{Reply, blank}
 use Rattle.finish.specs.declared.Beside.{Beside}
 use Rattle.budget.specs.Run.{End, tells, outOfSteps, Ran}
-use Rattle.steps.specs.declared.UsbOperation.{UsbOperation}
-use Rattle.mock.specs.declared.device.MockState.{MockState}
-use Rattle.turns.specs.declared.Stop.{Stop}
 use Rattle.turns.specs.Turn.{UsbState, usbState}
 use Rattle.turns.specs.Answers.{stopTold, besideTold}
 use Rattle.runner.specs.declared.RunAnswer.{RunAnswer}
@@ -23,11 +20,6 @@ answerEnd OutOfSteps b = outOfSteps
 unfoldable pub besideEnd : End Reply → Beside
 besideEnd (tells told) = besideTold told
 besideEnd outOfSteps = blank noSignature
-
--- the record of a run that is refused before its first step
-abbrev pub unstartedBy : Stop → UsbOperation → MockState → UsbRun
-unstartedBy stop operation device =
-    record { answer = Ended stop; beside = blank noSignature; operation = operation; device = device; steps = 0 }
 
 -- a run that answers r, and leaves the flash and the caller's data so
 pub record RunMeets (r : UsbRun) (flash bytes : List ℕ) (run : Ran Reply UsbState) : Type 0 where

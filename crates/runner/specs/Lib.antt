@@ -1,3 +1,4 @@
--- Runs of an operation: `Run` is what one comes to, `Answers` gives number and values of every answer.
+-- Runs of an operation: `Run` is what one comes to, `Answers` gives number and values of every answer. `Code`: what only the private functions need.
 pub mod Run
 pub mod Answers
+pub mod Code

@@ -1,20 +1,18 @@
 -- A run of an operation: what it checks, then its turns.
 -- Assumes nothing.
 use Prim.Native.Nat.{ℕ}
-use mathlib.Core.Bool.{Bool, true, false, not}
 use mathlib.Core.List.{List, [], _∷_, _++_}
-use lib.Dec.{eqb, ltb}
 use lib.ListN.{length}
 use Rattle.wire.specs.Told.{refused}
-use Rattle.wire.specs.Rules.{Rule, rule, pick}
+use Rattle.wire.specs.Rules.{Rule}
 use Rattle.lent.specs.Outcome.{orRefuse}
 use Rattle.answer.specs.Flash.{flashRules}
 use Rattle.finish.specs.Reply.{Reply}
 use Rattle.finish.specs.declared.Kind.{Kind}
 use Rattle.finish.specs.declared.Kind.the-variants as kind
-use Rattle.steps.specs.declared.UsbOperation.{UsbOperation}
 use Rattle.steps.specs.Record.{transferLength}
-use Rattle.steps.specs.Step.{differs}
+use Rattle.steps.specs.Step.{dataRule}
+use Rattle.mock.specs.Device.{storeRule}
 use Rattle.budget.specs.Run.{Ran, ran, tells, runs}
 use Rattle.turns.specs.Turn.{UsbState, usbTurn}
 
@@ -29,16 +27,12 @@ sectorData kind.Storage size = 0
 sectorData kind.Read size = size
 sectorData kind.Write size = size
 
--- 65: "the lent store isn't as long as at creation"
-abbrev pub storeDiffers : ℕ
-storeDiffers = 65
-
 -- "checks 60, 61, 65 and 27 before its first step"; 27: "sector data below the transfer length"
 unfoldable pub runRules : UsbState → ℕ → List Rule
 runRules s store =
     flashRules (length (s .flash))
-    ++ (rule (not (eqb store (s .device .«store_length»))) storeDiffers []
-    ∷ rule (ltb (length (s .«data»)) (sectorData (s .operation .kind) (transferLength (s .operation)))) differs []
+    ++ (storeRule (s .device) store
+    ∷ dataRule (length (s .«data»)) (sectorData (s .operation .kind) (transferLength (s .operation)))
     ∷ [])
 
 -- "A refusal writes no lent buffer and changes no record": those four take no step

@@ -14,11 +14,14 @@ ghost use mathlib.Core.Path.{_≡_};
 ghost use mathlib.Core.List.{List, []};
 ghost use Prim.Native.Nat.{ℕ};
 ghost use lib.ListN.{length};
+ghost use Rattle.wire.specs.Told.{number};
 ghost use Rattle.wire.specs.Rules.{pick};
-ghost use Rattle.budget.specs.Run.{runs};
+ghost use Rattle.finish.specs.declared.Beside.{Beside};
+ghost use Rattle.budget.specs.Run.{endTold, runs};
 ghost use Rattle.turns.specs.Turn.{usbState, isWrite, lentTo, usbTurn};
 ghost use Rattle.runner.specs.Run.{sectorData, wholeBudget, usbRun};
-ghost use Rattle.runner.specs.Answers.{unstartedBy, RunMeets};
+ghost use Rattle.runner.specs.Answers.{answerEnd, RunMeets};
+ghost use Rattle.runner.specs.Code.{unstartedBy};
 
 // Command, data, status and finish.
 const WHOLE_BUDGET: u32 = 4;
@@ -27,6 +30,18 @@ pub enum RunAnswer {
     Ended(Stop),
     // 28
     OutOfSteps,
+}
+
+impl RunAnswer {
+    // The document's number, 0 for the operation's value.
+    pub fn number(self) -> u8
+        ensures { λ r. ⌜ ((b : Beside) → r ≡ number (endTold (answerEnd self b))) ⌝ }
+    {
+        match self {
+            RunAnswer::Ended(stop) => stop.number(),
+            RunAnswer::OutOfSteps => 28,
+        }
+    }
 }
 
 // `beside` has what no enum can hold: a reply's bytes, or the signature of 11 or 56. `operation` and `device` are as the last step left them, `steps` counts

@@ -31,8 +31,9 @@ use Rattle.steps.specs.declared.UsbStepped.{UsbStepped}
 use Rattle.steps.specs.declared.Giving.{Giving}
 use Rattle.steps.specs.declared.UsbGiven.{UsbGiven}
 use Rattle.steps.specs.Record.{transferLength, commanded, commandOut, turned}
-use Rattle.steps.specs.Step.{Asks, writesCommand, does, stays, commandStep, sectorStep, sectored, finishedTold, stepTold, besideAsks, besideAt, plain, stepOf, StepMeets}
-use Rattle.steps.specs.Give.{keeps, nothingAsked, asksFor, owed, received, giveOf, givingTold, gave, GiveMeets}
+use Rattle.steps.specs.Step.{Asks, writesCommand, does, stays, commandStep, sectorStep, finishedTold, stepTold, besideAsks, besideAt, stepOf, StepMeets}
+use Rattle.steps.specs.Code.{sectored, plain, gave}
+use Rattle.steps.specs.Give.{keeps, nothingAsked, asksFor, owed, received, giveOf, givingTold, GiveMeets}
 
 -- an answer with nothing beside it
 pub plain-meets : (answer : UsbStep) (next : UsbOperation) (told : Told Asks) (sent old new : List ℕ) (r : UsbStepped)

@@ -17,7 +17,7 @@ use Rattle.steps.specs.declared.Giving.{Giving}
 use Rattle.steps.specs.declared.Giving.the-variants as giving
 use Rattle.steps.specs.declared.UsbGiven.{UsbGiven}
 use Rattle.steps.specs.Record.{statusSize, transferLength, inbandLength, turned, withStatus, withInband}
-use Rattle.steps.specs.Step.{differs}
+use Rattle.steps.specs.Step.{differs, dataRule}
 
 -- what a giving tells, the bytes that it puts at the front of the caller's data, and the record that it hands back
 pub record Give : Type 0 where
@@ -72,7 +72,7 @@ giveOf asked op bytes lent =
     orRefuse (keeps op)
     (rule (nothingAsked asked) notAsked []
     ∷ rule (ltb (asksFor asked op) (length bytes)) tooMany []
-    ∷ rule (ltb lent (owed asked op)) differs []
+    ∷ dataRule lent (owed asked op)
     ∷ [])
     (received asked op bytes)
 
@@ -85,9 +85,6 @@ givingTold giving.Taken = given tt
 givingTold giving.NotAsked = refused notAsked []
 givingTold giving.TooMany = refused tooMany []
 givingTold giving.DataDiffers = refused differs []
-
-abbrev pub gave : Giving → UsbOperation → UsbGiven
-gave answer op = record { answer = answer; next = op }
 
 -- a giving that answers r and leaves the caller's data `after`, where it was `before`
 pub record GiveMeets (r : UsbGiven) (before after : List ℕ) (g : Give) : Type 0 where

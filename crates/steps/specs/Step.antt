@@ -5,11 +5,11 @@ use mathlib.Core.Path.{_≡_}
 use mathlib.Core.List.{List, [], _∷_}
 use lib.Dec.{ltb}
 use Rattle.wire.specs.Told.{Told, given, refused, andThen}
-use Rattle.wire.specs.Rules.{pick, rule}
+use Rattle.wire.specs.Rules.{Rule, rule}
 use Rattle.wire.specs.Bytes.{front}
 use Rattle.lent.specs.Outcome.{orRefuse}
 use Rattle.block.specs.Signature.{noSignature}
-use Rattle.block.specs.Writing.{tooShort}
+use Rattle.block.specs.Writing.{tooShort, roomRule}
 use Rattle.protocol.specs.CommandBytes.{commandLength}
 use Rattle.finish.specs.Reply.{Reply, blank, finishTold, besideOf}
 use Rattle.finish.specs.Finish.{finishes}
@@ -51,15 +51,19 @@ stays op n values = does (refused n values) [] op
 abbrev pub differs : ℕ
 differs = 27
 
+-- the caller's data is shorter than what is wanted of it
+abbrev pub dataRule : ℕ → ℕ → Rule
+dataRule lent wanted = rule (ltb lent wanted) differs []
+
 -- "Command out, the first 31 output bytes, 24-30 zero"; 20
 unfoldable pub commandStep : UsbOperation → ℕ → Step
 commandStep op room =
-    orRefuse (stays op) (rule (ltb room commandLength) tooShort [] ∷ []) (does (given writesCommand) (commandOut op) (commanded op))
+    orRefuse (stays op) (roomRule room commandLength ∷ []) (does (given writesCommand) (commandOut op) (commanded op))
 
 -- "sector data below the transfer length, at its data step"
 abbrev pub sectorStep : UsbOperation → ℕ → Asks → Asked → Step
 sectorStep op lent asks asked =
-    orRefuse (stays op) (rule (ltb lent (transferLength op)) differs [] ∷ []) (does (given asks) [] (turned op operation.CommandStatus asked))
+    orRefuse (stays op) (dataRule lent (transferLength op) ∷ []) (does (given asks) [] (turned op operation.CommandStatus asked))
 
 -- the caller's data is written or read in its first transfer-length bytes, a reply into the in-band bytes
 unfoldable pub ioStep : IOBytes → UsbOperation → ℕ → Step
@@ -111,15 +115,6 @@ besideAsks (finished reply) = besideOf (given reply)
 unfoldable pub besideAt : Told Asks → Beside
 besideAt (given asks) = besideAsks asks
 besideAt (refused n values) = besideOf (refused n values)
-
--- the record that a step hands back, beside an answer with nothing beside it
-abbrev pub plain : UsbStep → UsbOperation → UsbStepped
-plain step op = record { step = step; beside = blank noSignature; next = op }
-
--- what the code answers at the data step of a sector operation
-abbrev pub sectored : UsbOperation → ℕ → UsbStep → Asked → UsbStepped
-sectored op lent answer asked =
-    pick (ltb lent (transferLength op)) (plain step.DataDiffers op) (plain answer (turned op operation.CommandStatus asked))
 
 -- a step that answers r and leaves its output `after`, where it was `before`
 pub record StepMeets (r : UsbStepped) (before after : List ℕ) (s : Step) : Type 0 where

@@ -10,9 +10,12 @@ ghost use mathlib.Core.Path.{_≡_};
 ghost use mathlib.Core.List.{List, _++_};
 ghost use Prim.Native.Nat.{ℕ, min, _≤_};
 ghost use lib.ListN.{length, take, drop, replicate};
+ghost use Rattle.wire.specs.Told.{number};
+ghost use Rattle.finish.specs.declared.Beside.{Beside};
 ghost use Rattle.steps.specs.Record.{fresh, ioOf, afterCommand, turned, withStatus, withInband};
-ghost use Rattle.steps.specs.Step.{plain, sectored, StepMeets, commandStep, ioStep, statusStep, finishStep, usbStep};
-ghost use Rattle.steps.specs.Give.{gave, GiveMeets, giveOf, usbGive};
+ghost use Rattle.steps.specs.Step.{stepTold, StepMeets, commandStep, ioStep, statusStep, finishStep, usbStep};
+ghost use Rattle.steps.specs.Code.{plain, sectored, gave};
+ghost use Rattle.steps.specs.Give.{givingTold, GiveMeets, giveOf, usbGive};
 
 // Where an operation stands: what its next step does.
 pub enum Operation {
@@ -64,6 +67,24 @@ pub enum UsbStep {
     DataDiffers,
 }
 
+impl UsbStep {
+    // The document's number: 0 for what a step asks for and for a reply.
+    pub fn number(self) -> u8
+        ensures { λ r. ⌜ ((b : Beside) → r ≡ number (stepTold self b)) ⌝ }
+    {
+        match self {
+            UsbStep::WriteCommand => 0,
+            UsbStep::WriteData(_) => 0,
+            UsbStep::ReadInband(_) => 0,
+            UsbStep::ReadData(_) => 0,
+            UsbStep::ReadStatus(_) => 0,
+            UsbStep::Finished(answer) => answer.number(),
+            UsbStep::OutputTooShort => 20,
+            UsbStep::DataDiffers => 27,
+        }
+    }
+}
+
 pub struct UsbStepped {
     pub step: UsbStep,
     pub beside: Beside,
@@ -78,6 +99,20 @@ pub enum Giving {
     TooMany,
     // 27
     DataDiffers,
+}
+
+impl Giving {
+    // The document's number, 0 where the bytes were taken.
+    pub fn number(self) -> u8
+        ensures { λ r. ⌜ r ≡ number (givingTold self) ⌝ }
+    {
+        match self {
+            Giving::Taken => 0,
+            Giving::NotAsked => 22,
+            Giving::TooMany => 21,
+            Giving::DataDiffers => 27,
+        }
+    }
 }
 
 pub struct UsbGiven {

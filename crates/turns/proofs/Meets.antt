@@ -43,7 +43,8 @@ use Rattle.mock.specs.Device.{Call, writeBulk, readBulk}
 use Rattle.budget.specs.Run.{Turned, ends, goes}
 use Rattle.turns.specs.declared.UsbTurned.{UsbTurned}
 use Rattle.turns.specs.Turn.{UsbState, usbState, onward, wrote, landed, gives, received, got, bufferFor, transfers, usbTurn}
-use Rattle.turns.specs.Answers.{stopTold, signatureTold, besideTold, turnTold, turnAfter, whereDone, stopAt, turnedBy, endedBy, besideTurned, TurnMeets}
+use Rattle.turns.specs.Answers.{stopTold, signatureTold, besideTold, turnTold, besideTurned, TurnMeets}
+use Rattle.turns.specs.Code.{turnAfter, whereDone, stopAt, turnedBy, endedBy}
 use Rattle.turns.proofs.Fine.{Fine, FineRead, fine}
 
 -- the device's answer

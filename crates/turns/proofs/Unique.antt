@@ -87,7 +87,7 @@ abbrev turnFor : Turned Reply UsbState → Turn
 turnFor (goes s) = turn.Goes
 turnFor (ends told s) = turn.Ends (stopFor told)
 
-abbrev stateIn : Turned Reply UsbState → UsbState
+abbrev pub stateIn : Turned Reply UsbState → UsbState
 stateIn (goes s) = s
 stateIn (ends told s) = s
 
@@ -96,7 +96,7 @@ unfolding turnTold
 turn-for turn.Goes b s = refl
 turn-for (turn.Ends x) b s = ap turn.Ends (stop-for x b)
 
-state-in : (t : Turn) (b : Beside) (s : UsbState) → stateIn (turnTold t b s) ≡ s
+pub state-in : (t : Turn) (b : Beside) (s : UsbState) → stateIn (turnTold t b s) ≡ s
 unfolding turnTold
 state-in turn.Goes b s = refl
 state-in (turn.Ends x) b s = refl

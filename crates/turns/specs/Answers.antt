@@ -9,16 +9,10 @@ use Rattle.wire.specs.Rules.{pick}
 use Rattle.block.specs.Signature.{noSignature}
 use Rattle.block.specs.Writing.{tooShort}
 use Rattle.answer.specs.Told.{errorTold, signatureBeside}
-use Rattle.answer.specs.declared.error.MockResult.{MockResult}
-use Rattle.answer.specs.declared.error.MockResult.the-variants.{Done, Refused}
 use Rattle.finish.specs.Reply.{Reply, finishTold, blank, badSignature, besideReply}
 use Rattle.finish.specs.declared.Beside.{Beside}
 use Rattle.steps.specs.Step.{differs}
-use Rattle.steps.specs.declared.UsbStep.{UsbStep}
-use Rattle.steps.specs.declared.UsbStep.the-variants as step
 use Rattle.budget.specs.Run.{Turned, ends, goes}
-use Rattle.steps.specs.declared.UsbOperation.{UsbOperation}
-use Rattle.mock.specs.declared.device.MockState.{MockState}
 use Rattle.turns.specs.declared.Stop.{Stop}
 use Rattle.turns.specs.declared.Stop.the-variants as stop
 use Rattle.turns.specs.declared.Turn.{Turn}
@@ -44,33 +38,6 @@ besideTold (refused number values) = blank (signatureTold number values)
 unfoldable pub turnTold : Turn → Beside → UsbState → Turned Reply UsbState
 turnTold turn.Goes b s = goes s
 turnTold (turn.Ends stop) b s = ends (stopTold stop b) s
-
--- a refused transfer is the end
-unfoldable pub turnAfter : MockResult → Turn
-turnAfter Done = turn.Goes
-turnAfter (Refused error) = turn.Ends (stop.Device error)
-
--- a read's bytes are given where the device did it
-abbrev pub whereDone : {A : Type 0} → MockResult → A → A → A
-whereDone Done after before = after
-whereDone (Refused error) after before = before
-
--- what a step that asks for no transfer stops with; nothing is said of the others
-unfoldable pub stopAt : UsbStep → Stop
-stopAt (step.Finished finish) = stop.Finished finish
-stopAt step.OutputTooShort = stop.OutputTooShort
-stopAt step.DataDiffers = stop.DataDiffers
-stopAt step.WriteCommand = stop.DataDiffers
-stopAt (step.WriteData n) = stop.DataDiffers
-stopAt (step.ReadInband n) = stop.DataDiffers
-stopAt (step.ReadData n) = stop.DataDiffers
-stopAt (step.ReadStatus n) = stop.DataDiffers
-
-abbrev pub turnedBy : Turn → Beside → UsbOperation → MockState → UsbTurned
-turnedBy turn beside operation device = record { turn = turn; beside = beside; operation = operation; device = device }
-
-abbrev pub endedBy : Stop → Beside → UsbOperation → MockState → UsbTurned
-endedBy stop = turnedBy (turn.Ends stop)
 
 unfoldable pub besideTurned : Turned Reply UsbState → Beside
 besideTurned (goes s) = blank noSignature

@@ -14,14 +14,16 @@ ghost use mathlib.Core.Path.{_≡_};
 ghost use mathlib.Core.List.{List, []};
 ghost use Prim.Native.Nat.{ℕ, _≤_};
 ghost use lib.ListN.{length, take, replicate};
-ghost use Rattle.wire.specs.Told.{Told};
+ghost use Rattle.wire.specs.Told.{Told, number};
 ghost use Rattle.answer.specs.Told.{Answers};
+ghost use Rattle.finish.specs.declared.Beside.{Beside};
 ghost use Rattle.steps.specs.declared.Asked.the-variants as asked;
 ghost use Rattle.steps.specs.Step.{StepMeets, usbStep};
 ghost use Rattle.steps.specs.Give.{usbGive};
 ghost use Rattle.mock.specs.Device.{writeBulk, readBulk};
 ghost use Rattle.turns.specs.Turn.{usbState, onward, wrote, got, isWrite, lentTo, usbTurn};
-ghost use Rattle.turns.specs.Answers.{TurnMeets, turnAfter, whereDone, stopAt, endedBy};
+ghost use Rattle.turns.specs.Answers.{stopTold, TurnMeets};
+ghost use Rattle.turns.specs.Code.{turnAfter, whereDone, stopAt, endedBy};
 
 // What a run stops with before its budget is used.
 pub enum Stop {
@@ -33,6 +35,20 @@ pub enum Stop {
     OutputTooShort,
     // 27
     DataDiffers,
+}
+
+impl Stop {
+    // The document's number, 0 for the operation's value.
+    pub fn number(self) -> u8
+        ensures { λ r. ⌜ ((b : Beside) → r ≡ number (stopTold self b)) ⌝ }
+    {
+        match self {
+            Stop::Finished(finish) => finish.number(),
+            Stop::Device(error) => error.number(),
+            Stop::OutputTooShort => 20,
+            Stop::DataDiffers => 27,
+        }
+    }
 }
 
 // What one step and its transfer come to.

@@ -78,7 +78,7 @@ fn of_run(answer: RunAnswer) -> Verdict
 }
 
 fn of_load_stop(stop: LoadStop) -> Verdict
-    ensures { λ r. ⌜ ((b : Beside) → verdictTold r b ≡ loadTold (load.stopTold stop)) ⌝ }
+    ensures { λ r. ⌜ ((b : Beside) → verdictTold r b ≡ loadTold (load.loadStopTold stop)) ⌝ }
 {
     match stop {
         LoadStop::Finished => Verdict::Done(UsbReply::Nothing),

@@ -6,7 +6,8 @@ use Rattle.block.specs.Signature.{signatureIn}
 use Rattle.status.specs.Failure.{atFinish}
 use Rattle.status.specs.StatusBytes.{readStatus}
 use Rattle.status.specs.declared.report.CommandStatus.{CommandStatus}
-use Rattle.finish.specs.Reply.{IsRefused, FinishMeets}
+use Rattle.finish.specs.Reply.{FinishMeets}
+use Rattle.finish.specs.Code.{IsRefused}
 use Rattle.finish.specs.Finish.{judged, finishes}
 use Rattle.finish.proofs.Cases.{block-read, refused-15, refused-10, finish-15, finish-10, finish-reply}
 use Rattle.finish.proofs.finish_of.Statement.{statement}

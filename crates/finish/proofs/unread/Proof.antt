@@ -1,7 +1,7 @@
 -- `finish::unread` meets its contract: an error becomes its refusal at a finish, and there is no status. Assumes nothing.
 use borrow.Author.Needs.{needs}
 use Rattle.status.specs.StatusMeets.{statusTold}
-use Rattle.finish.specs.Reply.{IsRefused}
+use Rattle.finish.specs.Code.{IsRefused}
 use Rattle.finish.proofs.Cases.{unread-meets}
 use Rattle.finish.proofs.unread.Statement.{statement}
 use Rattle.finish.proofs.unread.Tie as tie

@@ -3,7 +3,7 @@
 use mathlib.Core.Path.{_≡_, ap, sym, _∙_}
 use borrow.Author.Needs.{needs}
 use Rattle.answer.specs.declared.error.MockResult.{MockResult}
-use Rattle.loading.specs.Answers.{turnedBy, afterResult}
+use Rattle.loading.specs.Code.{turnedBy, afterResult}
 use Rattle.loading.proofs.after_control.Statement.{statement}
 use Rattle.loading.proofs.after_control.Tie as tie
 

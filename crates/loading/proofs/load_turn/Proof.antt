@@ -19,7 +19,7 @@ use Rattle.mock.specs.Device.{writeControl}
 use Rattle.budget.specs.Run.{Turned, ends}
 use Rattle.loading.specs.declared.LoadTurned.{LoadTurned}
 use Rattle.loading.specs.Load.{LoadState, loadState, carried, loadTurn}
-use Rattle.loading.specs.Answers.{stopTold, turnTold}
+use Rattle.loading.specs.Answers.{loadStopTold, turnTold}
 use Rattle.maskrom.proofs.Writes.{front-seen, whole-writes}
 use Rattle.loading.proofs.Sized.{whole-sized}
 use Rattle.loading.proofs.Cases.{turn-carries, turn-finishes, turn-refuses}
@@ -70,7 +70,7 @@ returns c =
     record { tells = c .before .before .carry .ensures .tells ∙ same }
 
 returns-2 : tie.Need-returns-2
-unfolding stepTold turnTold stopTold
+unfolding stepTold turnTold loadStopTold
 returns-2 c =
     let a = c .before .before .before .before .before .before .before .before .before .args in
     let st = c .before .before .before .before .before .step in
@@ -83,7 +83,7 @@ returns-2 c =
     }
 
 returns-3 : tie.Need-returns-3
-unfolding stepTold turnTold stopTold
+unfolding stepTold turnTold loadStopTold
 returns-3 c =
     let a = c .before .before .before .before .before .before .before .before .before .args in
     let st = c .before .before .before .before .before .step in
@@ -96,7 +96,7 @@ returns-3 c =
     }
 
 returns-4 : tie.Need-returns-4
-unfolding stepTold turnTold stopTold
+unfolding stepTold turnTold loadStopTold
 returns-4 c =
     let a = c .before .before .before .before .before .before .before .before .before .args in
     let st = c .before .before .before .before .before .step in

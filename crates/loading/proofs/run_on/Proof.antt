@@ -10,7 +10,7 @@ use Rattle.budget.specs.Run.{Turned, ends, goes, Ran, runs}
 use Rattle.budget.proofs.Loop.{On, begins, goes-on, stops, spent}
 use Rattle.loading.specs.declared.LoadTurn.{LoadTurn}
 use Rattle.loading.specs.Load.{LoadState, loadState, loadTurn}
-use Rattle.loading.specs.Answers.{stopTold, turnTold, answerEnd}
+use Rattle.loading.specs.Answers.{loadStopTold, turnTold, answerEnd}
 use Rattle.loading.proofs.run_on.Statement.{statement}
 use Rattle.loading.proofs.run_on.Tie as tie
 
@@ -57,7 +57,7 @@ returns-2 c =
     let left : l .used ≡ a .budget → ⊥ = c .before .before .before .before .before .before .before .before .before .if1 .left in
     let more : l .used < a .budget = omega (arith, l .inv .0 .within) in
     let s′ = loadState (t .result .upload) (t .result .device) (t .last .1 .1 .1 .0) in
-    let told = stopTold (c .before .turn .given .0 .0) in
+    let told = loadStopTold (c .before .turn .given .0 .0) in
     let ends-here : loadTurn (now (a .image)) (loadState (l .now-upload) (l .now-device) (l .store)) ≡ ends told s′ =
     sym (t .ensures .tells) ∙ ap (λ (x : LoadTurn). turnTold x s′) (c .before .turn .given .1) in
     let whole = stops (loadTurn (now (a .image))) (a .budget) (l .used) (loadState (l .now-upload) (l .now-device) (l .store)) s′ told more ends-here (l .inv .0) in

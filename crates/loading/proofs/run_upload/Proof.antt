@@ -14,13 +14,14 @@ use Rattle.budget.specs.Run.{runs}
 use Rattle.loading.specs.declared.LoadStop.the-variants as stop
 use Rattle.loading.specs.declared.LoadAnswer.the-variants as answer
 use Rattle.loading.specs.Load.{loadState, loadTurn, unstarted, loadRun}
-use Rattle.loading.specs.Answers.{stopTold, runBy}
+use Rattle.loading.specs.Answers.{loadStopTold}
+use Rattle.loading.specs.Code.{runBy}
 use Rattle.loading.proofs.Checks.{stopped, as-run, flash-refused, store-refused, image-refused, unrefused}
 use Rattle.loading.proofs.run_upload.Statement.{statement}
 use Rattle.loading.proofs.run_upload.Tie as tie
 
 returns : tie.Need-returns
-unfolding stopTold
+unfolding loadStopTold
 returns c =
     let a = c .before .before .before .before .before .before .before .before .args in
     let s = loadState (a .upload) (a .device) (now (a .store)) in
@@ -33,7 +34,7 @@ returns c =
     (stopped (stop.Device e) s (errorNumber e) (errorValues e noSignature) refl)
 
 returns-2 : tie.Need-returns-2
-unfolding stopTold errorValues
+unfolding loadStopTold errorValues
 returns-2 c =
     let a = c .before .before .before .before .before .before .before .before .before .args in
     let s = loadState (a .upload) (a .device) (now (a .store)) in
@@ -46,7 +47,7 @@ returns-2 c =
     (stopped (stop.Device error.StoreLength) s 65 [] refl)
 
 returns-3 : tie.Need-returns-3
-unfolding stopTold
+unfolding loadStopTold
 returns-3 c =
     let a = c .before .before .before .before .before .before .before .before .before .before .before .args in
     let s = loadState (a .upload) (a .device) (now (a .store)) in

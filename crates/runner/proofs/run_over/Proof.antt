@@ -15,8 +15,8 @@ use Rattle.steps.specs.Step.{differs}
 use Rattle.budget.specs.Run.{runs}
 use Rattle.turns.specs.declared.Stop.the-variants as stop
 use Rattle.turns.specs.Turn.{usbState, isWrite, lentTo, usbTurn}
-use Rattle.runner.specs.Run.{sectorData, storeDiffers, unstarted, usbRun}
-use Rattle.runner.specs.Answers.{unstartedBy}
+use Rattle.runner.specs.Run.{sectorData, unstarted, usbRun}
+use Rattle.runner.specs.Code.{unstartedBy}
 use Rattle.runner.proofs.Checks.{device-unstarted, data-unstarted, flash-refused, store-refused, data-refused, unrefused, as-run, whole-size, refused-size, length-picked}
 use Rattle.runner.proofs.run_over.Statement.{statement}
 use Rattle.runner.proofs.run_over.Tie as tie
@@ -41,7 +41,7 @@ returns-2 c =
     let s = usbState (a .operation) (a .device) (now (a .flash)) lent in
     let h = whole-size (c .before .before .before .before .before .flash-sectors .result) (length (now (a .flash))) (c .before .before .before .enum-told .given .0 .0) (c .before .before .before .before .before .flash-sectors .ensures) (c .before .before .before .enum-told .given .1) in
     as-run (c .unstarted2 .result) (unstartedBy (stop.Device error.StoreLength) (a .operation) (a .device)) (now (a .flash)) lent (usbRun s (a .store) (a .budget))
-    (unstarted s storeDiffers []) (c .unstarted2 .ensures)
+    (unstarted s 65 []) (c .unstarted2 .ensures)
     (store-refused s (a .store) (a .budget) (c .before .before .before .enum-told .given .0 .0) h (c .before .if1 .taken))
     (device-unstarted (a .operation) (a .device) (now (a .flash)) lent error.StoreLength)
 

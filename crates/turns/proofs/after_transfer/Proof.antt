@@ -6,7 +6,8 @@ use Rattle.finish.specs.declared.Beside.{Beside}
 use Rattle.turns.specs.declared.Turn.{Turn}
 use Rattle.turns.specs.declared.UsbTurned.{UsbTurned}
 use Rattle.turns.specs.Turn.{usbState, onward}
-use Rattle.turns.specs.Answers.{turnedBy, TurnMeets}
+use Rattle.turns.specs.Answers.{TurnMeets}
+use Rattle.turns.specs.Code.{turnedBy}
 use Rattle.turns.proofs.Meets.{after-answer}
 use Rattle.turns.proofs.after_transfer.Statement.{statement}
 use Rattle.turns.proofs.after_transfer.Tie as tie

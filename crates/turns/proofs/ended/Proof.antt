@@ -3,7 +3,7 @@
 use mathlib.Core.Path.{ap}
 use borrow.Author.Needs.{needs}
 use Rattle.turns.specs.declared.Stop.{Stop}
-use Rattle.turns.specs.Answers.{endedBy}
+use Rattle.turns.specs.Code.{endedBy}
 use Rattle.turns.proofs.ended.Statement.{statement}
 use Rattle.turns.proofs.ended.Tie as tie
 

@@ -9,7 +9,7 @@ use lib.ListN.{length}
 use Rattle.wire.specs.Bytes.{front}
 use Rattle.answer.specs.declared.error.MockResult.{MockResult}
 use Rattle.steps.specs.Give.{usbGive}
-use Rattle.turns.specs.Answers.{whereDone}
+use Rattle.turns.specs.Code.{whereDone}
 use Rattle.turns.proofs.Meets.{empty-put}
 use Rattle.turns.proofs.given_after.Statement.{statement}
 use Rattle.turns.proofs.given_after.Tie as tie

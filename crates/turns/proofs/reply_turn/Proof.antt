@@ -12,7 +12,8 @@ use Rattle.steps.specs.declared.Asked.the-variants as asked
 use Rattle.steps.specs.Give.{usbGive}
 use Rattle.mock.specs.Device.{readBulk}
 use Rattle.turns.specs.Turn.{usbState, landed, gives, got}
-use Rattle.turns.specs.Answers.{whereDone, TurnMeets}
+use Rattle.turns.specs.Answers.{TurnMeets}
+use Rattle.turns.specs.Code.{whereDone}
 use Rattle.turns.proofs.Meets.{take-same, read-meets}
 use Rattle.turns.proofs.reply_turn.Statement.{statement}
 use Rattle.turns.proofs.reply_turn.Tie as tie

@@ -9,7 +9,7 @@ use Rattle.steps.specs.declared.UsbStep.{UsbStep}
 use Rattle.steps.specs.declared.UsbStep.the-variants as step
 use Rattle.steps.proofs.UsbStep.{the-type}
 use Rattle.turns.specs.declared.Stop.the-variants as stop
-use Rattle.turns.specs.Answers.{stopAt}
+use Rattle.turns.specs.Code.{stopAt}
 use Rattle.turns.proofs.stop_at.Statement.{statement}
 use Rattle.turns.proofs.stop_at.Tie as tie
 

@@ -2,7 +2,7 @@
 -- Assumes nothing.
 use mathlib.Core.Path.{ap, sym}
 use borrow.Author.Needs.{needs}
-use Rattle.turns.specs.Answers.{turnAfter}
+use Rattle.turns.specs.Code.{turnAfter}
 use Rattle.turns.proofs.turn_after.Statement.{statement}
 use Rattle.turns.proofs.turn_after.Tie as tie
 
