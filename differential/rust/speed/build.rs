@@ -9,9 +9,9 @@ fn must(command: &mut Command) {
 
 fn main() {
     println!("cargo:rerun-if-changed=src/loops.c");
-    println!("cargo:rerun-if-env-changed=EXPORTED");
-    let exported = env::var("EXPORTED").expect("EXPORTED: the folder of libexported.a");
-    println!("cargo:rerun-if-changed={exported}/libexported.a");
+    println!("cargo:rerun-if-env-changed=PROVED");
+    let proved = env::var("PROVED").expect("PROVED: the folder of libproved.a");
+    println!("cargo:rerun-if-changed={proved}/libproved.a");
     let out = env::var("OUT_DIR").expect("cargo sets OUT_DIR");
     let object = Path::new(&out).join("loops.o");
     must(
@@ -21,9 +21,9 @@ fn main() {
     );
     must(Command::new("ar").arg("crs").arg(Path::new(&out).join("libloops.a")).arg(&object));
     println!("cargo:rustc-link-search=native={out}");
-    println!("cargo:rustc-link-search=native={exported}");
+    println!("cargo:rustc-link-search=native={proved}");
     println!("cargo:rustc-link-lib=static=loops");
-    println!("cargo:rustc-link-lib=static=exported");
+    println!("cargo:rustc-link-lib=static=proved");
     for function in ["memcpy", "memmove", "memset"] {
         println!("cargo:rustc-link-arg-bin=copies=-Wl,--wrap={function}");
     }

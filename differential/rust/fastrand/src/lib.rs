@@ -1,4 +1,5 @@
-//! Takes the place of `fastrand`, of which the Rust uses only `u32(..)`: hands out the tag that was chosen, and counts the draws.
+//! Takes the place of `fastrand`, of which the Rust uses only `u32(..)`: hands out the tag that was chosen, and counts
+//! the draws.
 
 use std::{cell::Cell, ops::RangeFull};
 

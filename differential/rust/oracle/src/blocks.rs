@@ -1,28 +1,20 @@
 //! Numbers, command and status blocks, replies.
 
-use std::{
-    panic::{AssertUnwindSafe, catch_unwind},
-    sync::OnceLock,
-};
+use std::sync::OnceLock;
 
 use rockusb::{
     operation::{OperationSteps, UsbOperationError, UsbStep},
     protocol::{
-        COMMAND_BLOCK_BYTES, Capability, ChipInfo, CommandBlock, CommandBlockParseError, CommandCode,
-        CommandStatus, CommandStatusParseError, Direction, FlashId, FlashInfo, ResetOpcode, Status,
-        StorageIndex,
+        COMMAND_BLOCK_BYTES, Capability, ChipInfo, CommandBlock, CommandCode, CommandStatus, Direction,
+        FlashId, FlashInfo, ResetOpcode, Status, StorageIndex,
     },
 };
 
 use crate::{
-    operations::operation_refusal,
-    text::{Answer, Stop, Tokens, four, show},
+    refusals::{command_refusal, operation_refusal, status_refusal},
+    text::{Answer, Stop, Tokens, show},
+    values::{SECTOR_BYTES_LIMIT, asked, flash_id_bytes, output, reset_opcode, show_index, storage_index},
 };
-
-/// A call of the Rust that may panic.
-pub fn asked<R>(call: impl FnOnce() -> R) -> Result<R, Stop> {
-    catch_unwind(AssertUnwindSafe(call)).map_err(|_| Stop::Outside)
-}
 
 pub fn number(name: &str, tokens: &mut Tokens) -> Answer {
     let n = tokens.u8()?;
@@ -38,43 +30,6 @@ pub fn number(name: &str, tokens: &mut Tokens) -> Answer {
         Ok(value) => format!("0 {value}"),
         Err((refusal, value)) => format!("{refusal} {value}"),
     })
-}
-
-pub fn show_index(index: StorageIndex) -> String {
-    match index {
-        StorageIndex::Unknown(v) => format!("0 {v}"),
-        named => format!("1 {}", u8::from(named)),
-    }
-}
-
-pub fn storage_index(tokens: &mut Tokens) -> Result<StorageIndex, Stop> {
-    let named = tokens.flag()?;
-    let index = tokens.u8()?;
-    if !named {
-        return Ok(StorageIndex::Unknown(index));
-    }
-    StorageIndex::VARIANTS.get(usize::from(index)).copied().ok_or(Stop::Unreadable)
-}
-
-pub fn reset_opcode(tokens: &mut Tokens) -> Result<ResetOpcode, Stop> {
-    ResetOpcode::try_from(tokens.u8()?).map_err(|_| Stop::Unreadable)
-}
-
-pub fn command_refusal(e: &CommandBlockParseError) -> String {
-    match e {
-        CommandBlockParseError::InvalidLength(n) => format!("1 {n}"),
-        CommandBlockParseError::InvalidSignature(s) => format!("2 {}", four(s)),
-        CommandBlockParseError::UnknownFlags(b) => format!("3 {b}"),
-        CommandBlockParseError::UnknownCommandCode(b) => format!("4 {b}"),
-    }
-}
-
-fn status_refusal(e: &CommandStatusParseError) -> String {
-    match e {
-        CommandStatusParseError::InvalidLength(n) => format!("5 {n}"),
-        CommandStatusParseError::InvalidSignature(s) => format!("6 {}", four(s)),
-        CommandStatusParseError::InvalidStatus(b) => format!("7 {b}"),
-    }
 }
 
 pub fn read_command(tokens: &mut Tokens) -> Answer {
@@ -119,11 +74,6 @@ pub fn convert_command(tokens: &mut Tokens) -> Answer {
         Ok(block) => write_block(&block, &mut out),
         Err(e) => Ok(format!("{} | {}", command_refusal(&e), show(&out))),
     }
-}
-
-pub fn output(tokens: &mut Tokens) -> Result<Vec<u8>, Stop> {
-    let len = tokens.len()?;
-    Ok(vec![tokens.u8()?; len])
 }
 
 fn write_block(block: &CommandBlock, out: &mut [u8]) -> Answer {
@@ -191,13 +141,6 @@ pub fn reply(name: &str, tokens: &mut Tokens) -> Answer {
     Ok(format!("0 {value}"))
 }
 
-/// `FlashId` hands its bytes out only as text; its `Debug` form has them all.
-pub fn flash_id_bytes(id: &FlashId) -> Vec<u8> {
-    let text = format!("{id:?}");
-    let list = text.trim_start_matches("FlashId([").trim_end_matches("])");
-    list.split(", ").map(|n| n.parse().expect("a byte")).collect()
-}
-
 fn show_flash_info(info: &FlashInfo) -> String {
     let bytes = show(info.inner());
     format!("{} {} {} {bytes}", info.sectors(), info.size(), info.block_size_sectors())
@@ -247,12 +190,12 @@ fn give<T>(step: UsbStep<'_, T>, bytes: &[u8]) {
 pub fn sectors(tokens: &mut Tokens) -> Answer {
     let len = tokens.up_to(u64::MAX)?;
     tokens.end()?;
-    if len > crate::operations::SECTOR_BYTES_LIMIT {
+    if len > SECTOR_BYTES_LIMIT {
         return Err(Stop::Outside);
     }
     // Made once: it has up to 33,553,920 bytes, of which only the length counts.
     static ZEROS: OnceLock<Vec<u8>> = OnceLock::new();
-    let zeros = ZEROS.get_or_init(|| vec![0; crate::operations::SECTOR_BYTES_LIMIT as usize]);
+    let zeros = ZEROS.get_or_init(|| vec![0; SECTOR_BYTES_LIMIT as usize]);
     let mut operation = asked(|| rockusb::operation::write_lba(0, &zeros[..len as usize]))?;
     let UsbStep::WriteBulk { data: command } = operation.step() else {
         unreachable!("the first step of an operation")

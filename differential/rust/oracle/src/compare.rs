@@ -1,8 +1,9 @@
-//! The same cases to the Rust and to another program, as a stream: what is held at a time does not grow with their number.
+//! The same cases to the Rust and to another program, as a stream: what is held at a time does not grow with their
+//! number.
 
 use std::{
     io::{self, BufRead, BufReader, BufWriter, Write},
-    process::{Child, ChildStdin, Command, Stdio},
+    process::ChildStdin,
     sync::{
         Arc,
         mpsc::{Receiver, SyncSender, sync_channel},
@@ -11,19 +12,19 @@ use std::{
 };
 
 use crate::{
+    asking::{next_answer, start},
     cases::{Kind, generate, make::Case},
     oracle::{OUTSIDE, Oracle},
     smallest::smallest,
 };
 
-/// Lines handed on at once, and how often before they are answered: more lines than a program's output buffer can hold answers of.
+/// Lines handed on at once, and how often before they are answered: more lines than a program's output buffer can hold
+/// answers of.
 const BATCH: usize = 4096;
 const WAITING: usize = 16;
 
 /// Differences of a kind that are made small and printed; the others are counted.
 pub const SHOWN: usize = 3;
-
-const NO_ANSWER: &str = "(no answer)";
 
 pub type Cases = Box<dyn Iterator<Item = Case> + Send>;
 
@@ -54,28 +55,8 @@ impl Count {
     }
 }
 
-pub struct Difference {
-    pub case: Case,
-    pub rust: String,
-    pub ours: String,
-}
-
-fn start(program: &str) -> io::Result<Child> {
-    Command::new("sh").args(["-c", program]).stdin(Stdio::piped()).stdout(Stdio::piped()).spawn()
-}
-
-/// One line of answers, without its end.
-fn next_answer(from: &mut impl BufRead, into: &mut String) -> io::Result<bool> {
-    into.clear();
-    let read = from.read_line(into)?;
-    if into.ends_with('\n') {
-        into.pop();
-    }
-    Ok(read > 0)
-}
-
-/// Hands cases to the program and to the comparer, until either has ended. All that was handed over before is with the program
-/// while this waits for the comparer.
+/// Hands cases to the program and to the comparer, until either has ended. All that was handed over before is with the
+/// program while this waits for the comparer.
 fn feed(cases: Cases, stdin: ChildStdin, to: SyncSender<Arc<Vec<Case>>>) {
     let mut stdin = BufWriter::new(stdin);
     let mut cases = cases.peekable();
@@ -163,45 +144,6 @@ fn compare_case(
         }
     }
     Ok(true)
-}
-
-/// The first line of a case on which the two sides differ, both asked anew.
-pub fn differ(program: &str, case: &[String]) -> io::Result<Option<Difference>> {
-    let mut child = start(program)?;
-    let mut stdin = child.stdin.take().expect("piped");
-    let text = case.concat_lines();
-    let feeder = thread::spawn(move || {
-        // A program that ends early is seen by its missing answers.
-        let _ = stdin.write_all(text.as_bytes());
-    });
-    let mut answers = BufReader::new(child.stdout.take().expect("piped"));
-    let mut oracle = Oracle::quiet();
-    let mut ours = String::new();
-    let mut found = None;
-    for (i, line) in case.iter().enumerate() {
-        let rust = oracle.answer(line);
-        let answered = next_answer(&mut answers, &mut ours)?;
-        if !answered {
-            ours = NO_ANSWER.into();
-        }
-        if found.is_none() && (!answered || (rust != OUTSIDE && rust != ours)) {
-            found = Some(Difference { case: case[..=i].to_vec(), rust, ours: ours.clone() });
-        }
-    }
-    drop(answers);
-    feeder.join().expect("the feeder does not panic");
-    child.wait()?;
-    Ok(found)
-}
-
-trait Lines {
-    fn concat_lines(&self) -> String;
-}
-
-impl Lines for [String] {
-    fn concat_lines(&self) -> String {
-        self.iter().flat_map(|line| [line.as_str(), "\n"]).collect()
-    }
 }
 
 /// Prints the smallest case of each difference that is shown, where it is not that of one before.

@@ -1,15 +1,18 @@
 //! Asks the unchanged Rust; see README.md and LANGUAGE.md.
 
+mod asking;
 mod blocks;
 mod cases;
 mod compare;
 mod operations;
 mod oracle;
+mod refusals;
 mod scale;
 mod selftest;
 mod smallest;
 mod stand;
 mod text;
+mod values;
 
 use std::{
     io::{self, BufRead, BufWriter, Write},
@@ -18,6 +21,7 @@ use std::{
 
 use cases::{Kind, SAMPLE_LINES, SAMPLE_SEED};
 use oracle::{OUTSIDE, Oracle};
+use scale::Programs;
 
 fn answer() -> io::Result<bool> {
     let mut oracle = Oracle::default();
@@ -69,9 +73,11 @@ fn dispatch(args: &[&str]) -> Option<io::Result<bool>> {
         ["compare", program, kind, seed, count] => {
             compare::compare(program, &Kind::named(kind)?, seed.parse().ok()?, count.parse().ok()?)
         }
-        ["scale", program, seed, share] => {
-            scale::scale(program, seed.parse().ok()?, share.parse().ok().filter(|share| *share > 0)?)
-        }
+        ["scale", seed, share, programs @ ..] => scale::scale(
+            &Programs::read(programs)?,
+            seed.parse().ok()?,
+            share.parse().ok().filter(|share| *share > 0)?,
+        ),
         ["selftest", page] => selftest::selftest(page),
         _ => return None,
     })

@@ -5,28 +5,15 @@ use std::marker::PhantomData;
 use rockusb::{
     device::{Error, Transport},
     operation::{MaskRomOperation, OperationSteps, Transferred, UsbOperationError, UsbStep},
-    protocol::{COMMAND_BLOCK_BYTES, Capability, ChipInfo, FlashId, FlashInfo, SECTOR_SIZE, StorageIndex},
+    protocol::{COMMAND_BLOCK_BYTES, Capability, ChipInfo, FlashId, FlashInfo, StorageIndex},
 };
 
 use crate::{
-    blocks::{asked, flash_id_bytes, output, reset_opcode, show_index, storage_index},
-    stand::{Room, Stand, transport_refusal},
-    text::{Answer, Stop, Tokens, four, show},
+    refusals::{operation_refusal, transport_refusal},
+    stand::{Room, Stand},
+    text::{Answer, Stop, Tokens, show},
+    values::{SECTOR_BYTES_LIMIT, asked, flash_id_bytes, output, reset_opcode, show_index, storage_index},
 };
-
-/// Above it the Rust narrows the sector count.
-pub const SECTOR_BYTES_LIMIT: u64 = 65_535 * SECTOR_SIZE;
-
-pub fn operation_refusal(e: &UsbOperationError) -> String {
-    match e {
-        UsbOperationError::TagMismatch => "10".into(),
-        UsbOperationError::InvalidStatusSignature(s) => format!("11 {}", four(s)),
-        UsbOperationError::InvalidStatusStatus(b) => format!("12 {b}"),
-        UsbOperationError::InvalidStatusLength => "13".into(),
-        UsbOperationError::ReplyParseFailure => "14".into(),
-        UsbOperationError::FailedStatus => "15".into(),
-    }
-}
 
 /// What a finished operation gives, with a space before it.
 trait Value {
@@ -414,7 +401,7 @@ pub fn whole_list(tokens: &mut Tokens) -> Answer {
 
 const CUT_LIMIT: u64 = 16;
 
-/// The Rust has no part-wise upload; demand 3 says that every cut gives the whole upload's list.
+/// The Rust has no part-wise upload; the third demand says that every cut gives the whole upload's list.
 pub fn cut_list(tokens: &mut Tokens) -> Answer {
     let area = tokens.u16()?;
     let check = tokens.flag()?;

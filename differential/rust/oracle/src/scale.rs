@@ -28,6 +28,27 @@ const CALLS: [(Kind, usize); 8] = [
 /// A kind's calls are asked in so many pieces, so that no core is left idle for long.
 const PIECES: usize = 8;
 
+/// The shell command of the program that answers a kind, for each kind.
+pub struct Programs(Vec<(Kind, String)>);
+
+impl Programs {
+    /// From words KIND=COMMAND. None where a word is not such, or a kind has no program.
+    pub fn read(words: &[&str]) -> Option<Programs> {
+        let mut programs = Vec::new();
+        for word in words {
+            let (kinds, command) = word.split_once('=')?;
+            programs.extend(Kind::named(kinds)?.into_iter().map(|kind| (kind, command.to_string())));
+        }
+        let has = |kind: Kind| programs.iter().any(|(one, _)| *one == kind);
+        CALLS.iter().all(|(kind, _)| has(*kind)).then_some(Programs(programs))
+    }
+
+    fn of(&self, kind: Kind) -> &str {
+        let found = self.0.iter().find(|(one, _)| *one == kind);
+        &found.expect("each kind has its program").1
+    }
+}
+
 struct Job {
     kind: Kind,
     cases: Cases,
@@ -78,7 +99,7 @@ fn jobs(seed: u64, share: usize) -> Vec<Job> {
 }
 
 fn work(
-    program: &str,
+    programs: &Programs,
     jobs: &Mutex<impl Iterator<Item = Job>>,
     counts: &Mutex<BTreeMap<&'static str, Count>>,
 ) -> io::Result<()> {
@@ -86,31 +107,31 @@ fn work(
         let Some(job) = jobs.lock().expect("no job panics").next() else {
             return Ok(());
         };
-        let count = compare_cases(program, job.cases)?;
+        let count = compare_cases(programs.of(job.kind), job.cases)?;
         counts.lock().expect("no job panics").entry(job.kind.name()).or_default().add(count);
     }
 }
 
 /// Whether there was no difference. `share` takes one in so many of the calls.
-pub fn scale(program: &str, seed: u64, share: usize) -> io::Result<bool> {
+pub fn scale(programs: &Programs, seed: u64, share: usize) -> io::Result<bool> {
     println!("seed {seed}");
     let began = Instant::now();
     let jobs = Mutex::new(jobs(seed, share).into_iter());
     let counts = Mutex::new(BTreeMap::new());
     let cores = thread::available_parallelism().map_or(1, |n| n.get());
     thread::scope(|scope| {
-        let workers: Vec<_> = (0..cores).map(|_| scope.spawn(|| work(program, &jobs, &counts))).collect();
+        let workers: Vec<_> = (0..cores).map(|_| scope.spawn(|| work(programs, &jobs, &counts))).collect();
         workers.into_iter().try_for_each(|worker| worker.join().expect("no job panics"))
     })?;
     let counts = counts.into_inner().expect("no job panics");
-    report(program, counts, began.elapsed())
+    report(programs, counts, began.elapsed())
 }
 
-fn report(program: &str, mut counts: BTreeMap<&str, Count>, took: Duration) -> io::Result<bool> {
+fn report(programs: &Programs, mut counts: BTreeMap<&str, Count>, took: Duration) -> io::Result<bool> {
     let mut all = Count::default();
     for (kind, _) in CALLS {
         let count = counts.remove(kind.name()).unwrap_or_default();
-        print_found(program, &count)?;
+        print_found(programs.of(kind), &count)?;
         print_count(&format!("{}: ", kind.name()), &count);
         all.add(count);
     }

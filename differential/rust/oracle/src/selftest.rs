@@ -1,4 +1,4 @@
-//! Shows that each part works, and prints the faults of the Rust that document 01 refuses.
+//! Shows that each part works, and prints the faults of the Rust that the rules refuse.
 
 use std::{fs, io};
 
@@ -10,16 +10,16 @@ use rockusb::{
 use rockusb_mock::MockDevice;
 
 use crate::{
-    blocks::asked,
     cases::{ALL, Kind, SAMPLE_LINES, SAMPLE_SEED, generate, make::Case},
     oracle::{LINE_LIMIT, OUTSIDE, Oracle},
+    values::asked,
 };
 
 /// Whether everything held.
 pub fn selftest(page: &str) -> io::Result<bool> {
     let parts = [
         ("examples of LANGUAGE.md", examples(&fs::read_to_string(page)?)),
-        ("proved examples of document 01", documented()),
+        ("proved examples of the rules", documented()),
         ("one tag is drawn by each constructor", draws()),
         ("generated cases are of the language", generated()),
         ("samples hold no `outside` and answer as in their full cases", samples()),

@@ -6,8 +6,8 @@ use std::{
 };
 
 use crate::{
+    asking::{Difference, differ},
     cases::make::Case,
-    compare::{Difference, differ},
 };
 
 /// The two sides are asked no more for one difference after so long.

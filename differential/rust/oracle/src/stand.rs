@@ -7,33 +7,19 @@ use rockusb::{
     operation::{OperationSteps, UsbStep},
     protocol::SECTOR_SIZE,
 };
-use rockusb_mock::{MockConfigError, MockDevice, MockDeviceConfig, MockState, MockTransportError};
+use rockusb_mock::{MockConfigError, MockDevice, MockDeviceConfig, MockState};
 
 use crate::{
-    blocks::{command_refusal, output},
+    refusals::transport_refusal,
     text::{Answer, Stop, Tokens, show},
+    values::output,
 };
 
 const SLOTS: usize = 8;
 const STORE_LIMIT: u64 = 65_536;
 const FLASH_LIMIT: usize = 65_536 * SECTOR_SIZE as usize;
 
-pub fn transport_refusal(e: &MockTransportError) -> String {
-    match e {
-        MockTransportError::InvalidTransferLength { expected, actual } => format!("50 {expected} {actual}"),
-        MockTransportError::UnsupportedControl { request_type, request, value } => {
-            format!("51 {request_type} {request} {value}")
-        }
-        MockTransportError::InvalidReset(opcode) => format!("52 {opcode}"),
-        MockTransportError::UnknownCommand(code) => format!("53 {}", u8::from(*code)),
-        MockTransportError::UnexpectedRead => "54".into(),
-        MockTransportError::UnexpectedWrite => "55".into(),
-        MockTransportError::CommandBlockError(e) => format!("56 {}", command_refusal(e)),
-        MockTransportError::OutOfRange => "57".into(),
-    }
-}
-
-/// The bounded store of document 01, which the Rust does not have: only whether a write would fit.
+/// The bounded store of the rules, which the Rust does not have: only whether a write would fit.
 pub struct Room {
     slot: usize,
     held: BTreeMap<u16, usize>,

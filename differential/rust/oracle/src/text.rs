@@ -5,7 +5,7 @@
 pub enum Stop {
     /// Not of the language.
     Unreadable,
-    /// The Rust does not have the case in document 01's domain.
+    /// The Rust does not have the case in the rules' domain.
     Outside,
 }
 

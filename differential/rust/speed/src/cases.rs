@@ -245,14 +245,8 @@ pub fn all(scale: Scale) -> Vec<Case> {
     let bench = Rc::new(RefCell::new(Bench { mock: original::device(flash.clone()), flash }));
     let mut cases: Vec<Case> =
         [scale.image, 1, 8, 64, 512].map(|n| check(&image, n, proved::update, "")).into();
-    let forms: [(Update, &str); 3] = [
-        (proved::update_bytewise, ", byte-wise"),
-        (proved::update_by_table, ", by the table"),
-        (proved::update_by_eight, ", by eight tables"),
-    ];
-    for (update, form) in forms {
-        cases.extend([scale.image, 1, 8, 64].map(|n| check(&image, n, update, form)));
-    }
+    cases
+        .extend([scale.image, 1, 8, 64].map(|n| check(&image, n, proved::update_by_table, ", by the table")));
     for checked in [true, false] {
         cases.push(upload(&image, checked, None));
         cases.extend(PARTS.map(|n| upload(&image, checked, Some(n))));

@@ -40,7 +40,8 @@ pub fn children() -> f64 {
     sum(u.user) + sum(u.system)
 }
 
-/// Runs with the stack so much deeper. How fast a copy between two blocks on the stack is depends on where they lie; each turn has another place.
+/// Runs with the stack so much deeper. How fast a copy between two blocks on the stack is depends on where they lie;
+/// each turn has another place.
 pub fn at_depth(depth: usize, run: &mut dyn FnMut()) {
     let pad = black_box([0u8; 208]);
     if depth == 0 {

@@ -1,4 +1,5 @@
-//! How often blocks of 4,096 bytes are copied or cleared: the calls of memcpy, memmove and memset, counted where the linker leads them through here.
+//! How often blocks of 4,096 bytes are copied or cleared: the calls of memcpy, memmove and memset, counted where the
+//! linker leads them through here.
 
 mod proved;
 

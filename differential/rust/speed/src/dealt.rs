@@ -1,4 +1,5 @@
-//! A deck dealt to the unchanged Rust and its mock, in the lines that `bench` prints. Uploads are left out: their bounded store is not the Rust's.
+//! A deck dealt to the unchanged Rust and its mock, in the lines that `bench` prints. Uploads are left out: their
+//! bounded store is not the Rust's.
 
 mod original;
 

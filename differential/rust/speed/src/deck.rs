@@ -15,7 +15,8 @@ use crate::{
 
 const BLOCKS: usize = 40_000;
 
-/// Kind, address, count and byte, dealt over and over: every kind but the uploads, whose bounded store the Rust has not.
+/// Kind, address, count and byte, dealt over and over: every kind but the uploads, whose bounded store the Rust has
+/// not.
 const DEALT: [(u8, u32, u16, u8); 13] = [
     (1, 0, 0, 0),
     (2, 0, 0, 0),

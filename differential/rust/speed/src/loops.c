@@ -1,4 +1,5 @@
-// The check by plain C loops, byte by byte and eight bytes at a time: what the proved one is held against beside the Rust. And how much stack a call takes.
+// The check by plain C loops, byte by byte and eight bytes at a time: what the proved one is held against beside the
+// Rust. And how much stack a call takes.
 #include <stddef.h>
 #include <stdint.h>
 #include <string.h>

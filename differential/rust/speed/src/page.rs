@@ -111,7 +111,9 @@ fn machine() -> String {
 }
 
 pub fn write(docs: &Path, rows: &[Row], copies: &str, stack: &str) -> io::Result<()> {
+    let library = std::env::var("LIBRARY").map_err(io::Error::other)?;
     let text = include_str!("page.md")
+        .replace("{library}", &library)
         .replace("{machine}", &machine())
         .replace("{table}", table(rows).trim_end())
         .replace("{copies}", copies.trim_end())

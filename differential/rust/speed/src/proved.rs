@@ -1,11 +1,10 @@
-//! The proved functions of `crates/exported`. The archive expects numbers below 32 bits extended, so they are handed over as 32 bits.
+//! The proved functions by their C names. The archive expects numbers below 32 bits extended, so they are handed over
+//! as 32 bits.
 
 #![allow(dead_code)]
 
 unsafe extern "C" {
     fn otterarch_crc_update(crc: u32, bytes: *const u8, length: usize) -> u16;
-    fn otterarch_crc_update_bytewise(crc: u32, bytes: *const u8, length: usize) -> u16;
-    fn otterarch_crc_update_by_eight(crc: u32, bytes: *const u8, length: usize) -> u16;
     fn otterarch_crc_update_by_table(crc: u32, bytes: *const u8, length: usize) -> u16;
     fn otterarch_upload_whole(
         area: u32,
@@ -15,14 +14,6 @@ unsafe extern "C" {
         out: *mut u8,
         room: usize,
         budget: u32,
-    ) -> u8;
-    fn otterarch_upload_first_bytewise(
-        area: u32,
-        checked: u32,
-        image: *const u8,
-        length: usize,
-        out: *mut u8,
-        room: usize,
     ) -> u8;
     fn otterarch_upload_parts(
         area: u32,
@@ -45,14 +36,6 @@ pub fn update(crc: u16, bytes: &[u8]) -> u16 {
     unsafe { otterarch_crc_update(crc.into(), bytes.as_ptr(), bytes.len()) }
 }
 
-pub fn update_bytewise(crc: u16, bytes: &[u8]) -> u16 {
-    unsafe { otterarch_crc_update_bytewise(crc.into(), bytes.as_ptr(), bytes.len()) }
-}
-
-pub fn update_by_eight(crc: u16, bytes: &[u8]) -> u16 {
-    unsafe { otterarch_crc_update_by_eight(crc.into(), bytes.as_ptr(), bytes.len()) }
-}
-
 pub fn update_by_table(crc: u16, bytes: &[u8]) -> u16 {
     unsafe { otterarch_crc_update_by_table(crc.into(), bytes.as_ptr(), bytes.len()) }
 }
@@ -61,13 +44,6 @@ pub fn upload_whole(area: u16, checked: bool, image: &[u8], out: &mut [u8], budg
     let (room, out) = (out.len(), out.as_mut_ptr());
     unsafe {
         otterarch_upload_whole(area.into(), checked.into(), image.as_ptr(), image.len(), out, room, budget)
-    }
-}
-
-pub fn upload_first_bytewise(area: u16, checked: bool, image: &[u8], out: &mut [u8]) -> u8 {
-    let (room, out) = (out.len(), out.as_mut_ptr());
-    unsafe {
-        otterarch_upload_first_bytewise(area.into(), checked.into(), image.as_ptr(), image.len(), out, room)
     }
 }
 

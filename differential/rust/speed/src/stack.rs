@@ -1,4 +1,4 @@
-//! How much stack the forms of the check take.
+//! How much stack the check and a step of an upload take.
 
 use std::hint::black_box;
 
@@ -22,37 +22,22 @@ extern "C" fn update() {
     black_box(proved::update(0xFFFF, &IMAGE));
 }
 
-extern "C" fn update_bytewise() {
-    black_box(proved::update_bytewise(0xFFFF, &IMAGE));
-}
-
 extern "C" fn update_by_table() {
     black_box(proved::update_by_table(0xFFFF, &IMAGE));
-}
-
-extern "C" fn update_by_eight() {
-    black_box(proved::update_by_eight(0xFFFF, &IMAGE));
 }
 
 extern "C" fn whole() {
     assert_eq!(proved::upload_whole(0x471, true, &IMAGE, out(), 1), 28);
 }
 
-extern "C" fn first_bytewise() {
-    assert_eq!(proved::upload_first_bytewise(0x471, true, &IMAGE, out()), 28);
-}
-
 extern "C" fn part() {
     assert_eq!(proved::upload_parts(0x471, true, 4096, &IMAGE, out(), 1), 28);
 }
 
-const CALLS: [(&str, extern "C" fn()); 7] = [
+const CALLS: [(&str, extern "C" fn()); 4] = [
     ("the check, eight bytes at a time as one number (`crc::update`)", update),
-    ("the check, byte-wise (`crc::update_bytewise`)", update_bytewise),
     ("the check, byte by byte by a table (`crc::update_by_table`)", update_by_table),
-    ("the check, eight bytes at a time by eight tables (`slicing::update_by_eight`)", update_by_eight),
     ("a step of a whole upload, checked (`WholeUpload::step`)", whole),
-    ("the same by the byte-wise check (`WholeUpload::step_bytewise`)", first_bytewise),
     ("a part of 4,096 bytes, checked (`MaskRomOperation::part`)", part),
 ];
 
