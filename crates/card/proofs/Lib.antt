@@ -1,5 +1,6 @@
--- `ByKind` goes through the kinds, `Fitting` has the bounds of what is asked for, `Refusals` the numbers of a refused block, `Unique` that the contract allows one answer.
+-- `ByKind` goes through the kinds, `Fitting` has the bounds of what is asked for, `Refusals` the numbers of a refused block, `Unique` that the contract allows one answer, `Wrong` programs that it rules out.
 pub mod ByKind
 pub mod Fitting
 pub mod Refusals
 pub mod Unique
+pub mod Wrong

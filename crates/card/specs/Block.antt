@@ -77,15 +77,15 @@ unfoldable pub isKind : ℕ → Bool
 isKind k = pick (ltb k chipInfoKind) false (leb k uncheckedKind)
 
 -- "read or write above 16 sectors or image above 8,192"
-abbrev pub mostSectors : ℕ
-mostSectors = 16
+abbrev pub mostDeckSectors : ℕ
+mostDeckSectors = 16
 
 abbrev pub longestImage : ℕ
 longestImage = 8192
 
 unfoldable pub tooLarge : Fields → Bool
 tooLarge f =
-    pick (eqb (f .kind) readKind) (ltb mostSectors (f .half))
-    (pick (eqb (f .kind) writeKind) (ltb mostSectors (f .half))
+    pick (eqb (f .kind) readKind) (ltb mostDeckSectors (f .half))
+    (pick (eqb (f .kind) writeKind) (ltb mostDeckSectors (f .half))
     (pick (eqb (f .kind) uploadKind) (ltb longestImage (f .word))
     (pick (eqb (f .kind) uncheckedKind) (ltb longestImage (f .word)) false)))

@@ -15,7 +15,7 @@ use Rattle.card.specs.declared.Request.{Request}
 use Rattle.card.specs.declared.Request.the-variants as request
 use Rattle.card.specs.declared.CardAnswer.{CardAnswer}
 use Rattle.card.specs.declared.CardAnswer.the-variants as answer
-use Rattle.card.specs.Block.{blockLength, fieldsOf, blockCheck, allZero, isKind, tooLarge, chipInfoKind, flashIdKind, flashInfoKind, capabilityKind, eraseLbaKind, eraseForceKind, readKind, writeKind, resetKind, storageKind, switchKind, uploadKind, mostSectors, longestImage}
+use Rattle.card.specs.Block.{blockLength, fieldsOf, blockCheck, allZero, isKind, tooLarge, chipInfoKind, flashIdKind, flashInfoKind, capabilityKind, eraseLbaKind, eraseForceKind, readKind, writeKind, resetKind, storageKind, switchKind, uploadKind, mostDeckSectors, longestImage}
 
 -- 45: "reset above 4"
 abbrev pub unknownReset : ℕ
@@ -78,8 +78,8 @@ Fits request.FlashInfo = Unit
 Fits request.Capability = Unit
 Fits (request.EraseLba first count) = Unit
 Fits (request.EraseForce first count) = Unit
-Fits (request.ReadLba first count) = count ≤ mostSectors
-Fits (request.WriteLba first count fill) = count ≤ mostSectors
+Fits (request.ReadLba first count) = count ≤ mostDeckSectors
+Fits (request.WriteLba first count fill) = count ≤ mostDeckSectors
 Fits (request.ResetDevice opcode) = Unit
 Fits request.Storage = Unit
 Fits (request.SwitchStorage index) = Unit

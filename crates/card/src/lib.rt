@@ -2,6 +2,7 @@
 ghost use mathlib.Core.Path.{_≡_};
 ghost use Prim.Native.Nat.{_≤_};
 ghost use lib.ListN.{length};
+ghost use Rattle.wire.specs.Told.{number};
 ghost use Rattle.card.specs.Block.{fieldsOf, allZero, isKind, tooLarge, blockCheck};
 ghost use Rattle.card.specs.Reading.{cardTold, resetRequest, switchRequest, requestOf, readCard};
 use block::order::u16_from_be_bytes;
@@ -38,6 +39,23 @@ pub enum CardAnswer {
     NotZero,
     TooLarge,
     UnknownReset,
+}
+
+impl CardAnswer {
+    // The document's number, 0 where the block asks for something.
+    pub fn number(self) -> u8
+        ensures { λ r. ⌜ r ≡ number (cardTold self) ⌝ }
+    {
+        match self {
+            CardAnswer::Asks(_) => 0,
+            CardAnswer::Short => 44,
+            CardAnswer::BadCheck => 40,
+            CardAnswer::UnknownKind => 41,
+            CardAnswer::NotZero => 42,
+            CardAnswer::TooLarge => 43,
+            CardAnswer::UnknownReset => 45,
+        }
+    }
 }
 
 // The fields of a block: byte 0, bytes 1 to 4, bytes 5 and 6, byte 7, bytes 510 and 511.

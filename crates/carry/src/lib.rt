@@ -1,6 +1,4 @@
 // One sector operation, from its start to its finish, at a fresh stand-in whose flash is lent.
-mod numbers;
-
 use mock::config::MockDeviceConfig;
 use mock::device::MockState;
 use steps::UsbOperation;
@@ -29,7 +27,7 @@ fn read_on(operation: UsbOperation, flash: &mut [u8], data: &mut [u8]) -> u8
     let ran = runner::run_whole(operation, fresh_device(), flash, &none, data);
     let dealt = verdict::operated(ran);
     let told = dealt.verdict;
-    numbers::of_verdict(told)
+    told.number()
 }
 
 // The whole run of an operation that takes its sectors from `data`.
@@ -40,7 +38,7 @@ fn write_on(operation: UsbOperation, flash: &mut [u8], data: &[u8]) -> u8
     let ran = runner::run_whole_write(operation, fresh_device(), flash, &none, data);
     let dealt = verdict::operated(ran);
     let told = dealt.verdict;
-    numbers::of_verdict(told)
+    told.number()
 }
 
 // Sectors of the flash from `first` on into all of `data`: 0 or the number of the refusal.
@@ -49,7 +47,7 @@ pub fn read_sectors(first: u32, flash: &mut [u8], data: &mut [u8]) -> u8
 {
     let start = operation::read_lba(TAG, first, data.len());
     let sectors = start.answer;
-    let refusal = numbers::of_sectors(sectors);
+    let refusal = sectors.number();
     if refusal != 0 {
         return refusal;
     }
@@ -62,7 +60,7 @@ pub fn write_sectors(first: u32, flash: &mut [u8], data: &[u8]) -> u8
 {
     let start = operation::write_lba(TAG, first, data.len());
     let sectors = start.answer;
-    let refusal = numbers::of_sectors(sectors);
+    let refusal = sectors.number();
     if refusal != 0 {
         return refusal;
     }

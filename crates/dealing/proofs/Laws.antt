@@ -19,7 +19,9 @@ use Rattle.steps.specs.declared.UsbOperation.{UsbOperation}
 use Rattle.steps.specs.Record.{fresh}
 use Rattle.operation.specs.Start.{sectorsOr0}
 use Rattle.maskrom.specs.declared.WholeUpload.{WholeUpload}
-use Rattle.maskrom.specs.Whole.{freshWhole}
+use Rattle.transfer.specs.Does.{after}
+use Rattle.maskrom.specs.Answers.{longest}
+use Rattle.maskrom.specs.Whole.{freshWhole, startStep}
 use Rattle.turns.specs.Turn.{isWrite, lentTo}
 use Rattle.mock.specs.declared.device.MockState.{MockState}
 use Rattle.card.specs.declared.Request.{Request}
@@ -32,7 +34,8 @@ use Rattle.card.specs.Reading.{cardTold, readCard}
 use Rattle.verdict.specs.declared.Dealt.{Dealt}
 use Rattle.verdict.specs.Deal.{Head, head, away, turnedAway, DealMeets}
 use Rattle.verdict.proofs.Laws.{away-deal}
-use Rattle.dealing.specs.Dealing.{room, operate, loadOf, load, plainStart, carryOut, dealAsked, dealBlock}
+use Rattle.dealing.specs.Dealing.{operate, loadOf, load, carryOut, dealAsked, dealBlock}
+use Rattle.dealing.specs.Code.{room, plainStart}
 
 -- the first n bytes of the room
 pub take-filled : (n fill : ℕ) (l : List ℕ) → l ≡ replicate room fill → n ≤ room → take n l ≡ replicate n fill
@@ -60,6 +63,12 @@ pub as-asked : (r : Dealt) (flash store : List ℕ) (op op′ : UsbOperation) (b
     → DealMeets r flash store (operate op bytes h) → DealMeets r flash store (operate op′ bytes′ h)
 as-asked r flash store op op′ bytes bytes′ h e f m =
     subst (λ (b : List ℕ). DealMeets r flash store (operate op′ b h)) f (subst (λ (o : UsbOperation). DealMeets r flash store (operate o bytes h)) e m)
+
+-- the start of a whole upload hands it back fresh
+pub starts-fresh : (area : ℕ) (checked : Bool) (image : List ℕ) → length image ≤ longest
+    → after (freshWhole area checked 0) (startStep area checked image) ≡ freshWhole area checked (length image)
+unfolding startStep unless after
+starts-fresh area checked image h = rw (le-ltb longest (length image) h)
 
 pub as-loaded : (r : Dealt) (flash store : List ℕ) (area : ℕ) (checked : Bool) (upload : WholeUpload) (image image′ : List ℕ) (h : Head)
     → upload ≡ freshWhole area checked (length image) → image ≡ image′

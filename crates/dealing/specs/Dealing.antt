@@ -20,10 +20,6 @@ use Rattle.card.specs.declared.Request.the-variants as request
 use Rattle.card.specs.Reading.{readCard}
 use Rattle.verdict.specs.Deal.{Head, Deal, operatedBy, loadedBy, away}
 
--- what the bench has room for: 16 sectors, or an image of 8,192 bytes
-abbrev pub room : ℕ
-room = 8192
-
 -- one whole operation, lent this sector data
 unfoldable pub operate : UsbOperation → List ℕ → Head → Deal
 operate op bytes h =
@@ -38,23 +34,6 @@ loadOf upload image h =
 
 abbrev pub load : ℕ → Bool → List ℕ → Head → Deal
 load area checked image h = loadOf (freshWhole area checked (length image)) image h
-
--- the operation of a request that brings no data of its own
-unfoldable pub plainStart : ℕ → Request → UsbOperation
-plainStart tag request.ChipInfo = fresh kind.ChipInfo (chipInfoCommand tag)
-plainStart tag request.FlashId = fresh kind.FlashId (flashIdCommand tag)
-plainStart tag request.FlashInfo = fresh kind.FlashInfo (flashInfoCommand tag)
-plainStart tag request.Capability = fresh kind.Capability (capabilityCommand tag)
-plainStart tag (request.EraseLba first count) = fresh kind.Nothing (eraseLbaCommand tag first count)
-plainStart tag (request.EraseForce first count) = fresh kind.Nothing (eraseForceCommand tag first count)
-plainStart tag (request.ResetDevice opcode) = fresh kind.Nothing (resetCommand tag opcode)
-plainStart tag request.Storage = fresh kind.Storage (storageCommand tag)
-plainStart tag (request.SwitchStorage index) = fresh kind.Nothing (switchCommand tag index)
--- those with sector data or an image are carried out otherwise
-plainStart tag (request.ReadLba first count) = fresh kind.Storage (storageCommand tag)
-plainStart tag (request.WriteLba first count fill) = fresh kind.Storage (storageCommand tag)
-plainStart tag (request.WriteArea area n fill) = fresh kind.Storage (storageCommand tag)
-plainStart tag (request.WriteAreaNoCrc area n fill) = fresh kind.Storage (storageCommand tag)
 
 -- "1 chip info, .. 13 upload without check"; "the fill byte of written data and images"; sectors are read into zeros
 unfoldable pub carryOut : ℕ → Request → Head → Deal

@@ -29,15 +29,15 @@ ghost use mathlib.Core.Path.{_≡_};
 ghost use mathlib.Core.List.{[]};
 ghost use Prim.Native.Nat.{_≤_, _*_};
 ghost use lib.ListN.{length, replicate};
-ghost use Rattle.wire.specs.Told.{number};
 ghost use Rattle.protocol.specs.Commands.{readLbaCommand, writeLbaCommand};
 ghost use Rattle.finish.specs.declared.Kind.the-variants as kind;
 ghost use Rattle.steps.specs.Record.{fresh};
 ghost use Rattle.transfer.specs.Does.{after};
 ghost use Rattle.maskrom.specs.Whole.{freshWhole, startStep};
-ghost use Rattle.card.specs.Reading.{cardTold, Fits};
+ghost use Rattle.card.specs.Reading.{Fits};
 ghost use Rattle.verdict.specs.Deal.{head, DealMeets};
-ghost use Rattle.dealing.specs.Dealing.{room, operate, load, loadOf, plainStart, carryOut, dealBlock};
+ghost use Rattle.dealing.specs.Dealing.{operate, load, loadOf, carryOut, dealBlock};
+ghost use Rattle.dealing.specs.Code.{room, plainStart};
 
 // As many bytes as the longest image and the data of 16 sectors have.
 fn filled(fill: u8) -> [u8; 8192]
@@ -179,20 +179,6 @@ fn deal_request(
     }
 }
 
-fn card_number(card: CardAnswer) -> u8
-    ensures { λ r. ⌜ r ≡ number (cardTold card) ⌝ }
-{
-    match card {
-        CardAnswer::Asks(_) => 0,
-        CardAnswer::Short => 44,
-        CardAnswer::BadCheck => 40,
-        CardAnswer::UnknownKind => 41,
-        CardAnswer::NotZero => 42,
-        CardAnswer::TooLarge => 43,
-        CardAnswer::UnknownReset => 45,
-    }
-}
-
 // Deals the block that has this tag.
 pub fn deal_block(
     tag: u32,
@@ -205,7 +191,7 @@ pub fn deal_block(
 {
     let card = read_card(tag, block);
     let CardAnswer::Asks(request) = card else {
-        return turned_away(card_number(card), device);
+        return turned_away(card.number(), device);
     };
     deal_request(tag, request, device, flash, store)
 }

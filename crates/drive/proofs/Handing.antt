@@ -8,6 +8,8 @@ use native.Mathlib.Omega.{arith}
 use lib.Dec.{eqb, ltb}
 use borrow.Author.Tests.{ne-eqb}
 use lib.ListN.{length, take, drop, length-take, length-drop}
+use types.Run.{OneOf, miss}
+use denote.Enum.Declared.{tagOf}
 use Rattle.wire.specs.Told.{Told, given, refused, number}
 use Rattle.wire.specs.Rules.{Rule, rule, unless, pick}
 use Rattle.transfer.specs.Does.{Does, does, Meets, said}
@@ -15,14 +17,27 @@ use Rattle.transfer.proofs.Lists.{take-min}
 use Rattle.maskrom.specs.declared.MaskRomOperation.{MaskRomOperation}
 use Rattle.transfer.specs.Moves.{blockSize}
 use Rattle.transfer.specs.Sending.{tooShort}
-use Rattle.maskrom.specs.Answers.{longest, tooLong, closedAlready, control, Handed, took, filled}
+use Rattle.maskrom.specs.declared.PartStep.{PartStep}
+use Rattle.maskrom.specs.declared.PartStep.the-variants.{Taken, WriteControl, OutputTooShort, AlreadyClosed, ImageTooLong}
+use Rattle.maskrom.proofs.PartStep.{the-type}
+use Rattle.maskrom.specs.Answers.{partTold, longest, tooLong, closedAlready, control, Handed, took, filled}
 use Rattle.maskrom.specs.PartWise.{waiting, held, closed, holding, takes, partStep}
 use Rattle.budget.specs.Run.{ends, goes, endTold, Ran, runs}
 use Rattle.budget.proofs.Loop.{On, goes-on, stops, spent}
 use Rattle.drive.specs.declared.uploads.PartPace.{PartPace}
 use Rattle.drive.specs.declared.uploads.PartPace.the-variants.{Took, Refused}
 use Rattle.drive.specs.declared.uploads.HandedOver.{HandedOver}
-use Rattle.drive.specs.Drive.{Handing, handing, onPart, partTurn, HandsOver, partPace}
+use Rattle.drive.specs.Drive.{Handing, handing, onPart, partTurn}
+use Rattle.drive.specs.Code.{HandsOver, partPace}
+
+-- a part that took nothing is refused by its number
+pub refused-pace : (step : PartStep) → OneOf (2 ∷ 3 ∷ 4 ∷ []) (tagOf the-type step) → Refused (number (partTold step)) ≡ partPace (partTold step)
+unfolding partTold partPace number
+refused-pace (Taken n) k = absurd (miss (2 ∷ 3 ∷ 4 ∷ []) 0 tt k)
+refused-pace (WriteControl n c) k = absurd (miss (2 ∷ 3 ∷ 4 ∷ []) 1 tt k)
+refused-pace OutputTooShort k = refl
+refused-pace AlreadyClosed k = refl
+refused-pace ImageTooLong k = refl
 
 took-only : {C : Type 0} (n m : ℕ) → Took n ≡ Refused m → C
 took-only n m e = absurd (let z : _≡_ {A = ℕ} 0 1 = cc in omega arith)

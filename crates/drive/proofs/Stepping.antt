@@ -2,16 +2,30 @@
 -- Assumes nothing.
 use Prim.Native.Nat.{ℕ, _+_, _<_}
 use mathlib.Core.Path.{_≡_, refl, ap, ap₂, sym, _∙_}
-use mathlib.Core.List.{List}
+use mathlib.Core.List.{List, [], _∷_}
 use native.Mathlib.Omega.{arith}
 use lib.ListN.{length}
+use types.Run.{OneOf, miss}
+use denote.Enum.Declared.{tagOf}
 use Rattle.wire.specs.Told.{Told, given, refused, number}
 use Rattle.transfer.specs.Does.{Does, Meets}
-use Rattle.maskrom.specs.Answers.{Asks, writes, finish}
+use Rattle.maskrom.specs.declared.UploadStep.{UploadStep}
+use Rattle.maskrom.specs.declared.UploadStep.the-variants.{WriteControl, Finished, OutputTooShort, ImageDiffers}
+use Rattle.maskrom.proofs.UploadStep.{the-type}
+use Rattle.maskrom.specs.Answers.{Asks, writes, finish, stepTold}
 use Rattle.budget.specs.Run.{ends, goes, endTold, Ran, runs}
 use Rattle.budget.proofs.Loop.{On, goes-on, stops, spent}
 use Rattle.drive.specs.declared.uploads.Pace.the-variants.{Goes, Ends}
-use Rattle.drive.specs.Drive.{DriveMeets, Stepping, stepping, onward, stepTurn, stepDrive, paceOf}
+use Rattle.drive.specs.Drive.{DriveMeets, Stepping, stepping, onward, stepTurn, stepDrive}
+use Rattle.drive.specs.Code.{paceOf}
+
+-- every step but a transfer is the last, and ends with its number
+pub last-pace : (step : UploadStep) → OneOf (1 ∷ 2 ∷ 3 ∷ []) (tagOf the-type step) → Ends (number (stepTold step)) ≡ paceOf (stepTold step)
+unfolding stepTold paceOf number
+last-pace (WriteControl c) k = absurd (miss (1 ∷ 2 ∷ 3 ∷ []) 0 tt k)
+last-pace Finished k = refl
+last-pace OutputTooShort k = refl
+last-pace ImageDiffers k = refl
 
 goes-only : {C : Type 0} (n : ℕ) → Goes ≡ Ends n → C
 goes-only n e = absurd (let z : _≡_ {A = ℕ} 0 1 = cc in omega arith)

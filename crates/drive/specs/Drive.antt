@@ -15,12 +15,7 @@ use Rattle.maskrom.specs.declared.WholeUpload.{WholeUpload}
 use Rattle.maskrom.specs.Answers.{Handed, took, filled, Asks, writes, finish}
 use Rattle.maskrom.specs.PartWise.{fresh, partStep, closeStep}
 use Rattle.maskrom.specs.Whole.{startStep, wholeStep}
-use Rattle.budget.specs.Run.{Turned, ends, goes, endTold, Ran, runs}
-use Rattle.drive.specs.declared.uploads.Pace.{Pace}
-use Rattle.drive.specs.declared.uploads.Pace.the-variants.{Goes, Ends}
-use Rattle.drive.specs.declared.uploads.PartPace.{PartPace}
-use Rattle.drive.specs.declared.uploads.PartPace.the-variants.{Took, Refused}
-use Rattle.drive.specs.declared.uploads.HandedOver.{HandedOver}
+use Rattle.budget.specs.Run.{Turned, ends, goes, endTold, runs}
 
 -- what a drive comes to: 0 or the document's number of its refusal, and the output
 pub record Drove : Type 0 where
@@ -97,12 +92,6 @@ partTurn size s =
     pick (eqb (length (s .left)) 0) (ends (given tt) s)
     (onPart (said d) (after (s .operation) d) (s .left) (front (sent d) (s .out)))
 
--- a function that answers r and leaves the output so, once the image is handed over or a part refused
-pub record HandsOver (r : HandedOver) (out : List ℕ) (run : Ran Unit Handing) : Type 0 where
-  pub tells : r .number ≡ number (endTold (run .end))
-  pub next : r .operation ≡ run .state .operation
-  pub leaves : out ≡ run .state .out
-
 -- an image that was handed over whole is closed: two transfers at most and the finish
 abbrev pub mostClosing : ℕ
 mostClosing = 3
@@ -116,14 +105,3 @@ unfoldable pub partDrive : ℕ → Bool → ℕ → List ℕ → List ℕ → �
 partDrive area checked size image out budget =
     let run = runs (partTurn size) budget (handing (fresh area checked) image out) in
     onHanded (number (endTold (run .end))) (run .state .operation) (run .state .out)
-
--- what the code reads off an answer: whether one more call follows, how many bytes a part took, or the number that it ends with
-unfoldable pub paceOf : Told Asks → Pace
-paceOf (given (writes c)) = Goes
-paceOf (given finish) = Ends 0
-paceOf (refused n vs) = Ends n
-
-unfoldable pub partPace : Told Handed → PartPace
-partPace (given (took n)) = Took n
-partPace (given (filled n c)) = Took n
-partPace (refused n vs) = Refused n

@@ -11,7 +11,7 @@ pub fn whole(area: u16, checked: bool, image: &[u8], out: &mut [u8], budget: u32
     let started = uploads::start(area, checked, image);
     let start = started.start;
     let UploadStart::Started = start else {
-        return 25;
+        return start.number();
     };
     uploads::whole_on(started.upload, image, out, budget)
 }

@@ -12,7 +12,8 @@ ghost use Rattle.maskrom.specs.Answers.{stepTold, partTold};
 ghost use Rattle.maskrom.specs.PartWise.{fresh, closeStep};
 ghost use Rattle.maskrom.specs.Whole.{StartMeets};
 ghost use Rattle.budget.specs.Run.{runs};
-ghost use Rattle.drive.specs.Drive.{DriveMeets, stepDrive, stepOf, mostClosing, paceOf, partPace, handing, partTurn, HandsOver};
+ghost use Rattle.drive.specs.Drive.{DriveMeets, stepDrive, stepOf, mostClosing, handing, partTurn};
+ghost use Rattle.drive.specs.Code.{paceOf, partPace, HandsOver};
 
 // Whether one more step follows, or the number that the upload ends with.
 pub(crate) enum Pace {
@@ -36,9 +37,7 @@ fn pace_of(step: UploadStep) -> Pace
 {
     match step {
         UploadStep::WriteControl(_) => Pace::Goes,
-        UploadStep::Finished => Pace::Ends(0),
-        UploadStep::OutputTooShort => Pace::Ends(20),
-        UploadStep::ImageDiffers => Pace::Ends(27),
+        _ => Pace::Ends(step.number()),
     }
 }
 
@@ -48,9 +47,7 @@ fn part_pace(step: PartStep) -> PartPace
     match step {
         PartStep::Taken(n) => PartPace::Took(n),
         PartStep::WriteControl(n, _) => PartPace::Took(n),
-        PartStep::OutputTooShort => PartPace::Refused(20),
-        PartStep::AlreadyClosed => PartPace::Refused(26),
-        PartStep::ImageTooLong => PartPace::Refused(25),
+        _ => PartPace::Refused(step.number()),
     }
 }
 

@@ -8,7 +8,7 @@ ghost use Rattle.protocol.specs.Commands.{readLbaCommand};
 ghost use Rattle.protocol.specs.CommandBytes.{readCommand, writeCommand};
 ghost use Rattle.drive.specs.Drive.{DriveMeets, wholeDrive, partDrive};
 ghost use Rattle.carry.specs.Sectors.{SectorsMeet, readSectors, writeSectors};
-ghost use Rattle.fields.specs.Command.{fieldsOf};
+ghost use Rattle.fields.specs.Command.{commandNumber};
 
 // The register after all of `bytes`.
 #[no_mangle]
@@ -66,7 +66,7 @@ pub extern "C" fn otterarch_command_write(tag: u32, first: u32, sectors: u16, ou
 // Code, address and count of a command as one number, or the number of the refusal above them.
 #[no_mangle]
 pub extern "C" fn otterarch_command_read(bytes: &[u8]) -> u64
-    ensures { λ r. ⌜ r ≡ fieldsOf (readCommand (now (bytes .entry))) ⌝ }
+    ensures { λ r. ⌜ r ≡ commandNumber (readCommand (now (bytes .entry))) ⌝ }
 {
     fields::read_command(bytes)
 }

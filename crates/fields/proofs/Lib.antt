@@ -1,1 +1,2 @@
--- Nothing beside the functions.
+-- `WrongFields`: programs that the contracts rule out.
+pub mod WrongFields

@@ -1,19 +1,17 @@
 -- The run of an upload by its transfers: each is one control write to the area, and behind the last comes the finish.
 -- Assumes nothing.
-use Prim.Native.Nat.{ℕ, zero, suc, _≤_}
+use Prim.Native.Nat.{ℕ, zero, suc}
 use mathlib.Core.Path.{_≡_, refl, ap, ap₂, _∙_}
 use mathlib.Core.Bool.{Bool}
 use mathlib.Core.List.{List, [], _∷_, map}
 use native.Mathlib.Omega.{arith}
 use lib.ListN.{length}
-use borrow.Author.Tests.{le-ltb}
-use Rattle.wire.specs.Rules.{unless}
 use Rattle.wire.specs.Told.{Told, given, refused}
 use Rattle.transfer.specs.Does.{does, said, sent, after}
 use Rattle.transfer.specs.Moves.{blockSize}
 use Rattle.maskrom.specs.declared.WholeUpload.{WholeUpload}
-use Rattle.maskrom.specs.Answers.{longest, writes, finish, control}
-use Rattle.maskrom.specs.Whole.{freshWhole, startStep, wholeStep}
+use Rattle.maskrom.specs.Answers.{writes, finish, control}
+use Rattle.maskrom.specs.Whole.{freshWhole, wholeStep}
 use Rattle.upload.specs.Upload.{uploadBytes, cut}
 use Rattle.upload.specs.Drive.{Transfer, transfer, transfersOf}
 use Rattle.upload.proofs.Sends.{Sends, finishes, sends}
@@ -86,12 +84,6 @@ module _ (image : List ℕ) (area : ℕ) where
       f blockSize (omega arith) ∙ ap₂ (λ (a : ℕ) (l : List ℕ). given (does (writes (control a (length bs))) l r′)) same bytes in
       rw (next-turn r r′ (length bs) p device store step)
       (by-told k p pieces device store r′ (written device area p store .told) refl (loads k r′ us pieces s tail))
-
--- it is what the start of a whole upload hands back
-pub starts-fresh : (area : ℕ) (checked : Bool) (image : List ℕ) → length image ≤ longest
-    → after (freshWhole area checked 0) (startStep area checked image) ≡ freshWhole area checked (length image)
-unfolding startStep unless after
-starts-fresh area checked image h = rw (le-ltb longest (length image) h)
 
 -- a fresh upload has the transfers of its bytes to make
 pub fresh-loads : (area : ℕ) (checked : Bool) (image : List ℕ) (budget : ℕ) (device : MockState) (store : List ℕ)

@@ -1,19 +1,35 @@
 -- What a run promises of itself makes its record the deal that is defined.
 -- Assumes nothing.
 use Prim.Native.Nat.{ℕ}
-use mathlib.Core.Path.{_≡_, refl, ap, sym, _∙_}
-use mathlib.Core.List.{List, []}
+use mathlib.Core.Path.{_≡_, refl, ap, sym, subst, _∙_}
+use mathlib.Core.List.{List, [], _∷_}
 use native.Mathlib.Omega.{arith}
-use Rattle.wire.specs.Told.{Told, given, refused}
+use types.Run.{OneOf, miss}
+use denote.Enum.Declared.{tagOf}
+use Rattle.wire.specs.Told.{Told, given, refused, number}
 use Rattle.block.specs.Signature.{noSignature}
-use Rattle.finish.specs.Reply.{Reply, blank, besideReply}
+use Rattle.status.specs.declared.failure.UsbOperationError.{UsbOperationError}
+use Rattle.finish.specs.Reply.{Reply, replyGiven, finishTold, blank, besideReply}
+use Rattle.finish.specs.declared.UsbReply.{UsbReply}
+use Rattle.finish.specs.declared.UsbReply.the-variants as reply
+use Rattle.finish.specs.declared.FinishAnswer.the-variants.{Replied, Failed}
 use Rattle.finish.specs.declared.Beside.{Beside}
 use Rattle.budget.specs.Run.{End, tells, outOfSteps, endTold, Ran}
 use Rattle.mock.specs.declared.device.MockState.{MockState}
 use Rattle.turns.specs.Turn.{UsbState}
-use Rattle.turns.specs.Answers.{besideTold}
+use Rattle.turns.specs.declared.Stop.{Stop}
+use Rattle.turns.specs.declared.Stop.the-variants as stop
+use Rattle.turns.proofs.Stop as stops
+use Rattle.turns.specs.Answers.{stopTold, besideTold}
+use Rattle.runner.specs.declared.RunAnswer.{RunAnswer}
+use Rattle.runner.specs.declared.RunAnswer.the-variants as run-answer
 use Rattle.runner.specs.declared.UsbRun.{UsbRun}
 use Rattle.runner.specs.Answers as run
+use Rattle.loading.specs.declared.LoadStop.{LoadStop}
+use Rattle.loading.specs.declared.LoadStop.the-variants as load-stop
+use Rattle.loading.proofs.LoadStop as load-stops
+use Rattle.loading.specs.declared.LoadAnswer.{LoadAnswer}
+use Rattle.loading.specs.declared.LoadAnswer.the-variants as load-answer
 use Rattle.loading.specs.declared.LoadRun.{LoadRun}
 use Rattle.loading.specs.Load.{LoadState}
 use Rattle.loading.specs.Answers as load
@@ -22,6 +38,73 @@ use Rattle.verdict.specs.declared.Verdict.the-variants.{Done, Refused}
 use Rattle.verdict.specs.declared.Dealt.{Dealt}
 use Rattle.verdict.specs.Verdict.{numbered, loadTold, verdictTold, besideDealt, kept}
 use Rattle.verdict.specs.Deal.{Head, head, operatedBy, loadedBy, away, turnedAway, DealMeets, OperatedMeets, LoadedMeets}
+
+-- a refusal is told by its number alone
+abbrev IsRefusal : {A : Type 0} → Told A → Type 0
+IsRefusal (given a) = ⊥
+IsRefusal (refused n values) = Unit
+
+by-number : (t : Told Reply) (n : ℕ) (b : Beside) → IsRefusal t → n ≡ number t → verdictTold (Refused n) b ≡ numbered t
+unfolding verdictTold numbered number
+by-number (given reply) n b r e = absurd r
+by-number (refused m values) n b r e = ap {B = Told Reply} (λ (k : ℕ). refused k []) e
+
+load-by-number : (t : Told Unit) (n : ℕ) (b : Beside) → IsRefusal t → n ≡ number t → verdictTold (Refused n) b ≡ loadTold t
+unfolding verdictTold loadTold number
+load-by-number (given done) n b r e = absurd r
+load-by-number (refused m values) n b r e = ap {B = Told Reply} (λ (k : ℕ). refused k []) e
+
+-- every stop but the finish is a refusal
+stop-refused : (s : Stop) (b : Beside) → OneOf (1 ∷ 2 ∷ 3 ∷ []) (tagOf stops.the-type s) → IsRefusal (stopTold s b)
+unfolding stopTold
+stop-refused (stop.Finished finish) b k = absurd (miss (1 ∷ 2 ∷ 3 ∷ []) 0 tt k)
+stop-refused (stop.Device error) b k = tt
+stop-refused stop.OutputTooShort b k = tt
+stop-refused stop.DataDiffers b k = tt
+
+load-refused : (s : LoadStop) → OneOf (1 ∷ 2 ∷ 3 ∷ []) (tagOf load-stops.the-type s) → IsRefusal (load.loadStopTold s)
+unfolding load.loadStopTold
+load-refused load-stop.Finished k = absurd (miss (1 ∷ 2 ∷ 3 ∷ []) 0 tt k)
+load-refused (load-stop.Device error) k = tt
+load-refused load-stop.OutputTooShort k = tt
+load-refused load-stop.ImageDiffers k = tt
+
+-- the ways out of an operation's run: used up, no finish, a failure, a reply
+module _ (a : RunAnswer) (b : Beside) where
+  module _ (n : ℕ) (e : n ≡ number (endTold (run.answerEnd a b))) where
+    pub run-spent : a ≡ run-answer.OutOfSteps → verdictTold (Refused n) b ≡ numbered (endTold (run.answerEnd a b))
+    unfolding endTold run.answerEnd
+    run-spent is = by-number _ n b (subst (λ (x : RunAnswer). IsRefusal (endTold (run.answerEnd x b))) (sym is) tt) e
+
+    pub run-stopped : (s : Stop) → a ≡ run-answer.Ended s → OneOf (1 ∷ 2 ∷ 3 ∷ []) (tagOf stops.the-type s)
+        → verdictTold (Refused n) b ≡ numbered (endTold (run.answerEnd a b))
+    unfolding endTold run.answerEnd
+    run-stopped s is k = by-number _ n b (subst (λ (x : RunAnswer). IsRefusal (endTold (run.answerEnd x b))) (sym is) (stop-refused s b k)) e
+
+    pub run-failed : (error : UsbOperationError) → a ≡ run-answer.Ended (stop.Finished (Failed error))
+        → verdictTold (Refused n) b ≡ numbered (endTold (run.answerEnd a b))
+    unfolding endTold run.answerEnd stopTold finishTold
+    run-failed error is = by-number _ n b (subst (λ (x : RunAnswer). IsRefusal (endTold (run.answerEnd x b))) (sym is) tt) e
+
+  pub run-replied : (reply : UsbReply) → a ≡ run-answer.Ended (stop.Finished (Replied reply)) → verdictTold (Done reply) b ≡ numbered (endTold (run.answerEnd a b))
+  unfolding verdictTold numbered endTold run.answerEnd stopTold finishTold
+  run-replied reply is = sym (ap (λ (x : RunAnswer). numbered (endTold (run.answerEnd x b))) is)
+
+-- and of an upload's
+module _ (a : LoadAnswer) (b : Beside) where
+  module _ (n : ℕ) (e : n ≡ number (endTold (load.answerEnd a))) where
+    pub load-spent : a ≡ load-answer.OutOfSteps → verdictTold (Refused n) b ≡ loadTold (endTold (load.answerEnd a))
+    unfolding endTold load.answerEnd
+    load-spent is = load-by-number _ n b (subst (λ (x : LoadAnswer). IsRefusal (endTold (load.answerEnd x))) (sym is) tt) e
+
+    pub load-stopped : (s : LoadStop) → a ≡ load-answer.Ended s → OneOf (1 ∷ 2 ∷ 3 ∷ []) (tagOf load-stops.the-type s)
+        → verdictTold (Refused n) b ≡ loadTold (endTold (load.answerEnd a))
+    unfolding endTold load.answerEnd
+    load-stopped s is k = load-by-number _ n b (subst (λ (x : LoadAnswer). IsRefusal (endTold (load.answerEnd x))) (sym is) (load-refused s k)) e
+
+  pub load-finished : a ≡ load-answer.Ended load-stop.Finished → verdictTold (Done reply.Nothing) b ≡ loadTold (endTold (load.answerEnd a))
+  unfolding verdictTold replyGiven loadTold endTold load.answerEnd load.loadStopTold
+  load-finished is = sym (ap (λ (x : LoadAnswer). loadTold (endTold (load.answerEnd x))) is)
 
 told-kept : (v : Verdict) (b : Beside) → verdictTold v (kept v b) ≡ verdictTold v b
 unfolding verdictTold kept

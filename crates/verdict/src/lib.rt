@@ -1,5 +1,4 @@
 // What a block of a deck comes to: 0 with its value, or the number of a refusal.
-use answer::error::MockTransportError;
 use finish::Beside;
 use finish::FinishAnswer;
 use finish::UsbReply;
@@ -9,14 +8,11 @@ use loading::LoadStop;
 use mock::device::MockState;
 use runner::RunAnswer;
 use runner::UsbRun;
-use status::failure::UsbOperationError;
 use turns::Stop;
 ghost use mathlib.Core.Path.{_≡_};
+ghost use Rattle.wire.specs.Told.{number};
 ghost use Rattle.budget.specs.Run.{endTold};
-ghost use Rattle.finish.specs.Reply.{finishTold};
 ghost use Rattle.finish.specs.declared.Beside.{Beside};
-ghost use Rattle.status.specs.Failure.{failureNumber};
-ghost use Rattle.turns.specs.Answers.{stopTold};
 ghost use Rattle.runner.specs.Answers as run;
 ghost use Rattle.loading.specs.Answers as load;
 ghost use Rattle.verdict.specs.Verdict.{numbered, loadTold, verdictTold, kept};
@@ -28,6 +24,18 @@ pub enum Verdict {
     Refused(u8),
 }
 
+impl Verdict {
+    // The document's number, 0 for a value.
+    pub fn number(self) -> u8
+        ensures { λ r. ⌜ ((b : Beside) → r ≡ number (verdictTold self b)) ⌝ }
+    {
+        match self {
+            Verdict::Done(_) => 0,
+            Verdict::Refused(number) => number,
+        }
+    }
+}
+
 // `beside` has a reply's bytes, and zeros where there is none.
 pub struct Dealt {
     pub verdict: Verdict,
@@ -35,66 +43,35 @@ pub struct Dealt {
     pub device: MockState,
 }
 
-fn failure_number(error: UsbOperationError) -> u8
-    ensures { λ r. ⌜ r ≡ failureNumber error ⌝ }
-{
-    match error {
-        UsbOperationError::TagMismatch => 10,
-        UsbOperationError::InvalidStatusSignature => 11,
-        UsbOperationError::InvalidStatusStatus(_) => 12,
-        UsbOperationError::InvalidStatusLength => 13,
-        UsbOperationError::ReplyParseFailure => 14,
-        UsbOperationError::FailedStatus => 15,
-    }
-}
-
-fn of_finish(finish: FinishAnswer) -> Verdict
-    ensures { λ r. ⌜ ((b : Beside) → verdictTold r b ≡ numbered (finishTold finish b)) ⌝ }
-{
-    match finish {
-        FinishAnswer::Replied(reply) => Verdict::Done(reply),
-        FinishAnswer::Failed(error) => Verdict::Refused(failure_number(error)),
-    }
-}
-
-fn of_stop(stop: Stop) -> Verdict
-    ensures { λ r. ⌜ ((b : Beside) → verdictTold r b ≡ numbered (stopTold stop b)) ⌝ }
-{
-    match stop {
-        Stop::Finished(finish) => of_finish(finish),
-        Stop::Device(error) => Verdict::Refused(error.number()),
-        Stop::OutputTooShort => Verdict::Refused(20),
-        Stop::DataDiffers => Verdict::Refused(27),
-    }
-}
-
+// A reply is the value, and every other end its number.
 fn of_run(answer: RunAnswer) -> Verdict
     ensures { λ r. ⌜ ((b : Beside) → verdictTold r b ≡ numbered (endTold (run.answerEnd answer b))) ⌝ }
 {
-    match answer {
-        RunAnswer::Ended(stop) => of_stop(stop),
-        RunAnswer::OutOfSteps => Verdict::Refused(28),
-    }
+    let number = answer.number();
+    let RunAnswer::Ended(stop) = answer else {
+        return Verdict::Refused(number);
+    };
+    let Stop::Finished(finish) = stop else {
+        return Verdict::Refused(number);
+    };
+    let FinishAnswer::Replied(reply) = finish else {
+        return Verdict::Refused(number);
+    };
+    Verdict::Done(reply)
 }
 
-fn of_load_stop(stop: LoadStop) -> Verdict
-    ensures { λ r. ⌜ ((b : Beside) → verdictTold r b ≡ loadTold (load.loadStopTold stop)) ⌝ }
-{
-    match stop {
-        LoadStop::Finished => Verdict::Done(UsbReply::Nothing),
-        LoadStop::Device(error) => Verdict::Refused(error.number()),
-        LoadStop::OutputTooShort => Verdict::Refused(20),
-        LoadStop::ImageDiffers => Verdict::Refused(27),
-    }
-}
-
+// An upload has no value.
 fn of_load(answer: LoadAnswer) -> Verdict
     ensures { λ r. ⌜ ((b : Beside) → verdictTold r b ≡ loadTold (endTold (load.answerEnd answer))) ⌝ }
 {
-    match answer {
-        LoadAnswer::Ended(stop) => of_load_stop(stop),
-        LoadAnswer::OutOfSteps => Verdict::Refused(28),
-    }
+    let number = answer.number();
+    let LoadAnswer::Ended(stop) = answer else {
+        return Verdict::Refused(number);
+    };
+    let LoadStop::Finished = stop else {
+        return Verdict::Refused(number);
+    };
+    Verdict::Done(UsbReply::Nothing)
 }
 
 // A reply's bytes stay beside it; beside a refusal stand zeros.

@@ -15,7 +15,7 @@ returns : tie.Need-returns
 returns c =
     let a = c .before .before .before .before .before .args in
     let s = c .before .before .read-lba .ensures in
-    let n = c .before .of-sectors in
+    let n = c .before .number in
     let told = n .ensures ∙ ap number (s .tells) in
     let none = carries-refused (reading (a .first)) (now (a .flash)) (now (a .«data»)) (sectorsIn (length (now (a .«data»)))) (λ e. c .if1 .taken (told ∙ e)) in
     record { tells = told ∙ sym (ap (λ (x : Carried). x .number) none); flash = sym (ap (λ (x : Carried). x .flash) none); leaves = sym (ap (λ (x : Carried). x .«data») none) }
@@ -27,7 +27,7 @@ returns-2 c =
     let run = c .before .before .before .before .read-on in
     subst (λ (x : Carried). SectorsMeet (run .result) (run .last .1 .0) (run .last .1 .1 .0) x)
     (carries-run (reading (a .first)) (now (a .flash)) (now (a .«data»)) (s .result .answer) (length (now (a .«data»))) (s .result .operation) (s .ensures .tells)
-    (sym (c .before .before .before .before .before .before .before .before .of-sectors .ensures) ∙ c .before .before .before .before .before .before .before .if1 .left) (s .ensures .operation))
+    (sym (c .before .before .before .before .before .before .before .before .number .ensures) ∙ c .before .before .before .before .before .before .before .if1 .left) (s .ensures .operation))
     (run .ensures)
 
 pub read-sectors-spec : {M : Type 1} → statement M

@@ -15,8 +15,8 @@ returns c =
     let run = c .before .before .before .before .run-whole-write in
     let v = c .before .operated in
     let bytes = lentTo (a .operation .kind) (now (a .«data»)) [] in
-    ran-at (a .operation) (d .result) (now (a .flash)) bytes (d .ensures) (run .result) (v .result) (c .of-verdict .result) (run .last .1 .1 .0) bytes (run .ensures) (v .ensures)
-    (c .of-verdict .ensures (v .result .beside))
+    ran-at (a .operation) (d .result) (now (a .flash)) bytes (d .ensures) (run .result) (v .result) (c .number .result) (run .last .1 .1 .0) bytes (run .ensures) (v .ensures)
+    (c .number .ensures (v .result .beside))
 
 pub write-on-spec : {M : Type 1} → statement M
 write-on-spec = tie.close (tie.spec (λ c κs. search needs) (λ c. search needs) (λ c κs. search needs) (λ c κs. search needs) (λ c κs. search needs) (λ c. search needs) returns)

@@ -19,7 +19,7 @@ returns : tie.Need-returns
 returns c =
     let a = c .before .before .before .before .before .args in
     let s = c .before .before .write-lba .ensures in
-    let n = c .before .of-sectors in
+    let n = c .before .number in
     let told = n .ensures ∙ ap number (s .tells) in
     let none = carries-refused (writing (a .first)) (now (a .flash)) (now (a .«data»)) (sectorsIn (length (now (a .«data»)))) (λ e. c .if1 .taken (told ∙ e)) in
     record { tells = told ∙ sym (ap (λ (x : Carried). x .number) none); flash = sym (ap (λ (x : Carried). x .flash) none); leaves = sym (ap (λ (x : Carried). x .«data») none) }
@@ -34,7 +34,7 @@ returns-2 c =
     ap (λ (o : UsbOperation). lentTo (o .kind) (now (a .«data»)) []) (s .ensures .operation) in
     subst (λ (x : Carried). SectorsMeet (run .result) (run .last .1 .0) (now (a .«data»)) x)
     (carries-run (writing (a .first)) (now (a .flash)) (now (a .«data»)) (s .result .answer) (length (now (a .«data»))) (s .result .operation) (s .ensures .tells)
-    (sym (c .before .before .before .before .before .of-sectors .ensures) ∙ c .before .before .before .before .if1 .left) (s .ensures .operation))
+    (sym (c .before .before .before .before .before .number .ensures) ∙ c .before .before .before .before .if1 .left) (s .ensures .operation))
     (subst (λ (l : List ℕ). SectorsMeet (run .result) (run .last .1 .0) l (runAt (s .result .operation) (now (a .flash)) l)) same (run .ensures))
 
 pub write-sectors-spec : {M : Type 1} → statement M

@@ -21,7 +21,7 @@ returns c =
     let a = c .before .before .before .before .before .before .before .args in
     let card = c .before .before .before .read-card in
     as-dealt _ _ _ (a .tag) (now (a .block)) (card .result) _ (card .ensures)
-    (refused-card (card .result) (c .before .before .match .keys2) _ (a .tag) (a .device) (now (a .flash)) (now (a .store)) _ (c .before .card-number .ensures) (c .turned-away .ensures))
+    (refused-card (card .result) (c .before .before .match .keys2) _ (a .tag) (a .device) (now (a .flash)) (now (a .store)) _ (c .before .number .ensures) (c .turned-away .ensures))
 
 requires : tie.Need-deal-request-requires
 unfolding cardTold

@@ -12,7 +12,7 @@ use Rattle.steps.specs.Record.{fresh}
 use Rattle.card.specs.declared.Request.{Request}
 use Rattle.card.specs.declared.Request.the-variants as request
 use Rattle.card.proofs.Request.{the-type}
-use Rattle.dealing.specs.Dealing.{plainStart}
+use Rattle.dealing.specs.Code.{plainStart}
 use Rattle.dealing.proofs.plain_start.Statement.{statement}
 use Rattle.dealing.proofs.plain_start.Tie as tie
 

@@ -9,7 +9,8 @@ use Rattle.protocol.specs.Commands.{readLbaCommand}
 use Rattle.finish.specs.declared.Kind.the-variants as kind
 use Rattle.steps.specs.Record.{fresh}
 use Rattle.verdict.proofs.Laws.{operated-deal}
-use Rattle.dealing.specs.Dealing.{room, operate}
+use Rattle.dealing.specs.Dealing.{operate}
+use Rattle.dealing.specs.Code.{room}
 use Rattle.dealing.proofs.Laws.{take-filled, as-long, sectors-exact, as-asked}
 use Rattle.dealing.proofs.read_sectors.Statement.{statement}
 use Rattle.dealing.proofs.read_sectors.Tie as tie

@@ -6,8 +6,7 @@ use native.Mathlib.Omega.{arith}
 use borrow.Author.Needs.{needs}
 use lib.ListN.{length, take}
 use Rattle.maskrom.specs.Answers.{longest}
-use Rattle.landing.proofs.Loads.{starts-fresh}
-use Rattle.dealing.proofs.Laws.{take-filled, as-long, as-loaded}
+use Rattle.dealing.proofs.Laws.{take-filled, as-long, starts-fresh, as-loaded}
 use Rattle.dealing.proofs.upload_filled.Statement.{statement}
 use Rattle.dealing.proofs.upload_filled.Tie as tie
 

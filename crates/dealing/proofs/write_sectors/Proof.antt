@@ -12,7 +12,8 @@ use Rattle.finish.specs.declared.Kind.the-variants as kind
 use Rattle.steps.specs.declared.UsbOperation.{UsbOperation}
 use Rattle.steps.specs.Record.{fresh}
 use Rattle.verdict.proofs.Laws.{operated-deal}
-use Rattle.dealing.specs.Dealing.{room, operate}
+use Rattle.dealing.specs.Dealing.{operate}
+use Rattle.dealing.specs.Code.{room}
 use Rattle.dealing.proofs.Laws.{take-filled, as-long, sectors-exact, written-from, as-asked}
 use Rattle.dealing.proofs.write_sectors.Statement.{statement}
 use Rattle.dealing.proofs.write_sectors.Tie as tie

@@ -10,7 +10,8 @@ use Rattle.budget.specs.Run.{runs}
 use Rattle.maskrom.specs.declared.MaskRomOperation.{MaskRomOperation}
 use Rattle.maskrom.specs.PartWise.{fresh}
 use Rattle.drive.specs.declared.uploads.HandedOver.{HandedOver}
-use Rattle.drive.specs.Drive.{Drove, DriveMeets, handing, partTurn, HandsOver, onHanded, partDrive}
+use Rattle.drive.specs.Drive.{Drove, DriveMeets, handing, partTurn, onHanded, partDrive}
+use Rattle.drive.specs.Code.{HandsOver}
 use Rattle.drive.proofs.Told.{part-refused, all-handed}
 use Rattle.drive.proofs.parts.Statement.{statement}
 use Rattle.drive.proofs.parts.Tie as tie

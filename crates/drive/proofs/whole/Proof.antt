@@ -4,6 +4,8 @@ use mathlib.Core.Path.{ap, sym, subst, _∙_}
 use mathlib.Core.List.{[]}
 use denote.Ref.{now}
 use borrow.Author.Needs.{needs}
+use Rattle.wire.specs.Told.{number}
+use Rattle.maskrom.specs.declared.UploadStart.{UploadStart}
 use Rattle.maskrom.specs.Answers.{startTold, tooLong}
 use Rattle.maskrom.specs.Whole.{freshWhole, startStep}
 use Rattle.drive.specs.Drive.{Drove, DriveMeets}
@@ -12,13 +14,14 @@ use Rattle.drive.proofs.whole.Statement.{statement}
 use Rattle.drive.proofs.whole.Tie as tie
 
 returns : tie.Need-returns
-unfolding startTold
+unfolding startTold number
 returns c =
-    let a = c .before .before .before .before .before .args in
-    let s = c .before .before .start .ensures in
+    let a = c .before .before .before .before .before .before .args in
+    let s = c .before .before .before .start .ensures in
     let none = start-refused (now (a .image)) (now (a .out)) (a .budget) (startStep (a .area) (a .checked) (now (a .image))) tooLong []
-    (sym (ap startTold (c .enum-told2 .given .1)) ∙ s .tells) in
-    record { tells = sym (ap (λ (d : Drove). d .number) none); leaves = sym (ap (λ (d : Drove). d .out) none) }
+    (sym (ap startTold (c .before .enum-told2 .given .1)) ∙ s .tells) in
+    let told = c .number .ensures ∙ ap (λ (x : UploadStart). number (startTold x)) (c .before .enum-told2 .given .1) in
+    record { tells = told ∙ sym (ap (λ (d : Drove). d .number) none); leaves = sym (ap (λ (d : Drove). d .out) none) }
 
 returns-2 : tie.Need-returns-2
 unfolding startTold
@@ -32,4 +35,4 @@ returns-2 c =
     (run .ensures)
 
 pub whole-spec : {M : Type 1} → statement M
-whole-spec = tie.close (tie.spec (λ c κs. search needs) (λ c. search needs) (λ c. search needs) returns (λ c κs. search needs) (λ c. search needs) returns-2)
+whole-spec = tie.close (tie.spec (λ c κs. search needs) (λ c. search needs) (λ c. search needs) (λ c κs. search needs) returns (λ c κs. search needs) (λ c. search needs) returns-2)

@@ -16,7 +16,7 @@ returns c =
     let w = c .before .before .before .to-bytes .ensures in
     let k = c .before .before .before .before .before .read-lba .ensures in
     let out = now (c .before .before .before .before .before .before .before .args .out) in (
-      c .of-written .ensures ∙ ap number (w .tells) ∙ ap (λ (x : CommandBlock). number (writeCommand x (length out) .told)) k,
+      c .number .ensures ∙ ap number (w .tells) ∙ ap (λ (x : CommandBlock). number (writeCommand x (length out) .told)) k,
       w .leaves ∙ ap (λ (x : CommandBlock). front (writeCommand x (length out) .sent) out) k,
     )
 

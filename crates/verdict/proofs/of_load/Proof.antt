@@ -1,21 +1,19 @@
--- A stop has its own verdict, and a budget that is used up is 28.
--- Assumes nothing.
-use mathlib.Core.Path.{ap, sym, _∙_}
+-- Every way out but the last has met an end that is no finish.
+use mathlib.Core.Path.{ap, _∙_}
 use borrow.Author.Needs.{needs}
-use Rattle.budget.specs.Run.{endTold}
-use Rattle.loading.specs.declared.LoadAnswer.{LoadAnswer}
-use Rattle.loading.specs.Answers.{answerEnd}
-use Rattle.verdict.specs.Verdict.{loadTold, verdictTold}
+use Rattle.loading.specs.declared.LoadAnswer.the-variants.{Ended}
+use Rattle.verdict.proofs.Laws.{load-spent, load-stopped, load-finished}
 use Rattle.verdict.proofs.of_load.Statement.{statement}
 use Rattle.verdict.proofs.of_load.Tie as tie
 
+returns : tie.Need-returns
+returns c b = load-spent _ b _ (c .before .before .number .ensures) (c .enum-told .given .1)
+
+returns-2 : tie.Need-returns-2
+returns-2 c b = load-stopped _ b _ (c .before .before .before .before .number .ensures) _ (c .before .before .answer .given .1) (c .match2 .keys2)
+
+returns-3 : tie.Need-returns-3
+returns-3 c b = load-finished _ b (c .before .before .before .answer .given .1 ∙ ap Ended (c .enum-told2 .given .1))
+
 pub of-load-spec : {M : Type 1} → statement M
-unfolding verdictTold loadTold endTold answerEnd
-of-load-spec =
-    tie.close
-    (tie.spec
-    (λ c. search needs)
-    (λ c κs. search needs)
-    (λ c. search needs)
-    (λ c b. c .of-load-stop .ensures b ∙ sym (ap (λ (a : LoadAnswer). loadTold (endTold (answerEnd a))) (c .before .before .answer .given .1)))
-    (λ c b. sym (ap (λ (a : LoadAnswer). loadTold (endTold (answerEnd a))) (c .enum-told .given .1))))
+of-load-spec = tie.close (tie.spec (λ c κs. search needs) (λ c. search needs) (λ c. search needs) returns (λ c. search needs) returns-2 returns-3)

@@ -1,21 +1,31 @@
--- A stop has its own verdict, and a budget that is used up is 28.
--- Assumes nothing.
-use mathlib.Core.Path.{ap, sym, _∙_}
+-- Every way out but the last has met an end that tells no value, and the last a reply.
+use mathlib.Core.Path.{ap, _∙_}
 use borrow.Author.Needs.{needs}
-use Rattle.budget.specs.Run.{endTold}
-use Rattle.runner.specs.declared.RunAnswer.{RunAnswer}
-use Rattle.runner.specs.Answers.{answerEnd}
-use Rattle.verdict.specs.Verdict.{numbered, verdictTold}
+use Rattle.finish.specs.declared.FinishAnswer.{FinishAnswer}
+use Rattle.turns.specs.declared.Stop.{Stop}
+use Rattle.turns.specs.declared.Stop.the-variants.{Finished}
+use Rattle.runner.specs.declared.RunAnswer.the-variants.{Ended}
+use Rattle.verdict.proofs.Laws.{run-spent, run-stopped, run-failed, run-replied}
 use Rattle.verdict.proofs.of_run.Statement.{statement}
 use Rattle.verdict.proofs.of_run.Tie as tie
 
+returns : tie.Need-returns
+returns c b = run-spent _ b _ (c .before .before .number .ensures b) (c .enum-told .given .1)
+
+returns-2 : tie.Need-returns-2
+returns-2 c b = run-stopped _ b _ (c .before .before .before .before .number .ensures b) _ (c .before .before .answer .given .1) (c .match2 .keys2)
+
+returns-3 : tie.Need-returns-3
+returns-3 c b =
+    run-failed _ b _ (c .before .before .before .before .before .before .before .before .number .ensures b) _
+    (c .before .before .before .before .before .before .answer .given .1 ∙ ap Ended (c .before .before .before .stop .given .1 ∙ ap Finished (c .enum-told2 .given .1)))
+
+returns-4 : tie.Need-returns-4
+returns-4 c b =
+    run-replied _ b _
+    (c .before .before .before .before .before .before .before .answer .given .1 ∙ ap Ended (c .before .before .before .before .stop .given .1 ∙ ap Finished (c .before .finish .given .1)))
+
 pub of-run-spec : {M : Type 1} → statement M
-unfolding verdictTold numbered endTold answerEnd
 of-run-spec =
     tie.close
-    (tie.spec
-    (λ c. search needs)
-    (λ c κs. search needs)
-    (λ c. search needs)
-    (λ c b. c .of-stop .ensures b ∙ sym (ap (λ (a : RunAnswer). numbered (endTold (answerEnd a b))) (c .before .before .answer .given .1)))
-    (λ c b. sym (ap (λ (a : RunAnswer). numbered (endTold (answerEnd a b))) (c .enum-told .given .1))))
+    (tie.spec (λ c κs. search needs) (λ c. search needs) (λ c. search needs) returns (λ c. search needs) returns-2 (λ c. search needs) (λ c. search needs) returns-3 returns-4)

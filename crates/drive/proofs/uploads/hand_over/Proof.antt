@@ -13,7 +13,8 @@ use Rattle.maskrom.specs.Answers.{partTold}
 use Rattle.maskrom.specs.PartWise.{partStep}
 use Rattle.budget.proofs.Loop.{begins}
 use Rattle.drive.specs.declared.uploads.PartPace.the-variants.{Took}
-use Rattle.drive.specs.Drive.{handing, partTurn, partPace}
+use Rattle.drive.specs.Drive.{handing, partTurn}
+use Rattle.drive.specs.Code.{partPace}
 use Rattle.drive.proofs.Handing.{Handling, lent-part, took-within, hand-spent, hand-done, hand-on, hand-refused}
 use Rattle.drive.proofs.uploads.hand_over.Statement.{statement}
 use Rattle.drive.proofs.uploads.hand_over.Tie as tie

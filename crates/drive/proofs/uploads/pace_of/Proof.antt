@@ -1,12 +1,14 @@
--- Each arm's pace is the definition's.
+-- A transfer goes on, and any other step ends with its number.
 -- Assumes nothing.
-use mathlib.Core.Path.{refl}
+use mathlib.Core.Path.{refl, ap, _∙_}
 use borrow.Author.Needs.{needs}
 use Rattle.maskrom.specs.Answers.{stepTold}
-use Rattle.drive.specs.Drive.{paceOf}
+use Rattle.drive.specs.declared.uploads.Pace.the-variants.{Ends}
+use Rattle.drive.specs.Code.{paceOf}
+use Rattle.drive.proofs.Stepping.{last-pace}
 use Rattle.drive.proofs.uploads.pace_of.Statement.{statement}
 use Rattle.drive.proofs.uploads.pace_of.Tie as tie
 
 pub pace-of-spec : {M : Type 1} → statement M
 unfolding stepTold paceOf
-pace-of-spec = tie.close (tie.spec (λ c. search needs) (λ c. search needs) (λ c. search needs) (λ c. search needs) (λ c. rw (c .enum-told .given .1) refl) (λ c. rw (c .enum-told2 .given .1) refl) (λ c. rw (c .enum-told3 .given .1) refl) (λ c. rw (c .enum-told4 .given .1) refl))
+pace-of-spec = tie.close (tie.spec (λ c. search needs) (λ c κs. search needs) (λ c. rw (c .enum-told .given .1) refl) (λ c. ap Ends (c .number .ensures) ∙ last-pace (c .before .before .args .step) (c .before .match .keys2)))

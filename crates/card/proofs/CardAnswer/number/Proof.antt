@@ -1,0 +1,29 @@
+-- Each arm gives the number that its case tells.
+-- Assumes nothing.
+use mathlib.Core.Path.{ap, sym}
+use borrow.Author.Needs.{needs}
+use Rattle.wire.specs.Told.{number}
+use Rattle.card.specs.declared.CardAnswer.{CardAnswer}
+use Rattle.card.specs.Reading.{cardTold}
+use Rattle.card.proofs.CardAnswer.number.Statement.{statement}
+use Rattle.card.proofs.CardAnswer.number.Tie as tie
+
+pub number-spec : {M : Type 1} → statement M
+unfolding number cardTold
+number-spec =
+    tie.close
+    (tie.spec
+    (λ c. search needs)
+    (λ c. search needs)
+    (λ c. search needs)
+    (λ c. search needs)
+    (λ c. search needs)
+    (λ c. search needs)
+    (λ c. search needs)
+    (λ c. sym (ap (λ (a : CardAnswer). number (cardTold a)) (c .enum-told .given .1)))
+    (λ c. sym (ap (λ (a : CardAnswer). number (cardTold a)) (c .enum-told2 .given .1)))
+    (λ c. sym (ap (λ (a : CardAnswer). number (cardTold a)) (c .enum-told3 .given .1)))
+    (λ c. sym (ap (λ (a : CardAnswer). number (cardTold a)) (c .enum-told4 .given .1)))
+    (λ c. sym (ap (λ (a : CardAnswer). number (cardTold a)) (c .enum-told5 .given .1)))
+    (λ c. sym (ap (λ (a : CardAnswer). number (cardTold a)) (c .enum-told6 .given .1)))
+    (λ c. sym (ap (λ (a : CardAnswer). number (cardTold a)) (c .enum-told7 .given .1))))
