@@ -1,0 +1,58 @@
+// "Numbers": a number read as a direction, a code, a status, a reset opcode, a storage index.
+use codes::CodeRead;
+use codes::CommandCode;
+use codes::Direction;
+use codes::DirectionRead;
+use codes::ResetOpcode;
+use codes::ResetRead;
+use codes::Status;
+use codes::StatusRead;
+use codes::StorageIndex;
+use replay_answers::told::Told;
+use replay_answers::told::one;
+use replay_answers::told::outside;
+use replay_answers::values::storage;
+use replay_lines::names::COD;
+use replay_lines::names::DIR;
+use replay_lines::names::IDX;
+use replay_lines::names::RST;
+use replay_lines::names::STA;
+
+fn direction(n: u8) -> Told {
+    match Direction::from_number(n) {
+        DirectionRead::Known(d) => one(0, d.number() as u64),
+        DirectionRead::Unknown(n) => one(3, n as u64),
+    }
+}
+
+fn code(n: u8) -> Told {
+    match CommandCode::from_number(n) {
+        CodeRead::Known(c) => one(0, c.number() as u64),
+        CodeRead::Unknown(n) => one(4, n as u64),
+    }
+}
+
+fn status(n: u8) -> Told {
+    match Status::from_number(n) {
+        StatusRead::Known(s) => one(0, s.number() as u64),
+        StatusRead::Unknown(n) => one(7, n as u64),
+    }
+}
+
+fn reset(n: u8) -> Told {
+    match ResetOpcode::from_number(n) {
+        ResetRead::Known(r) => one(0, r.number() as u64),
+        ResetRead::Unknown(n) => one(52, n as u64),
+    }
+}
+
+pub(crate) fn read(name: u64, n: u8) -> Told {
+    match name {
+        DIR => direction(n),
+        COD => code(n),
+        STA => status(n),
+        RST => reset(n),
+        IDX => storage(StorageIndex::from_number(n)),
+        _ => outside(),
+    }
+}
