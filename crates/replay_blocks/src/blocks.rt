@@ -60,10 +60,11 @@ fn command_told(parse: CommandParse) -> Told {
 }
 
 fn status_error(error: CommandStatusParseError, signature: [u8; 4]) -> Told {
+    let number = error.number() as u64;
     match error {
-        CommandStatusParseError::InvalidLength(n) => one(5, n as u64),
-        CommandStatusParseError::InvalidSignature => four(6, signature),
-        CommandStatusParseError::InvalidStatus(byte) => one(7, byte as u64),
+        CommandStatusParseError::InvalidLength(n) => one(number, n as u64),
+        CommandStatusParseError::InvalidSignature => four(number, signature),
+        CommandStatusParseError::InvalidStatus(byte) => one(number, byte as u64),
     }
 }
 
@@ -112,7 +113,7 @@ pub(crate) fn read(name: u64, bytes: &[u8]) -> Told {
 fn written(answer: Written) -> Told {
     match answer {
         Written::Bytes(n) => one(0, n as u64),
-        Written::TooShort => none(20),
+        Written::TooShort => none(answer.number() as u64),
     }
 }
 

@@ -19,30 +19,34 @@ use replay_lines::names::RST;
 use replay_lines::names::STA;
 
 fn direction(n: u8) -> Told {
-    match Direction::from_number(n) {
+    let read = Direction::from_number(n);
+    match read {
         DirectionRead::Known(d) => one(0, d.number() as u64),
-        DirectionRead::Unknown(n) => one(3, n as u64),
+        DirectionRead::Unknown(n) => one(read.number() as u64, n as u64),
     }
 }
 
 fn code(n: u8) -> Told {
-    match CommandCode::from_number(n) {
+    let read = CommandCode::from_number(n);
+    match read {
         CodeRead::Known(c) => one(0, c.number() as u64),
-        CodeRead::Unknown(n) => one(4, n as u64),
+        CodeRead::Unknown(n) => one(read.number() as u64, n as u64),
     }
 }
 
 fn status(n: u8) -> Told {
-    match Status::from_number(n) {
+    let read = Status::from_number(n);
+    match read {
         StatusRead::Known(s) => one(0, s.number() as u64),
-        StatusRead::Unknown(n) => one(7, n as u64),
+        StatusRead::Unknown(n) => one(read.number() as u64, n as u64),
     }
 }
 
 fn reset(n: u8) -> Told {
-    match ResetOpcode::from_number(n) {
+    let read = ResetOpcode::from_number(n);
+    match read {
         ResetRead::Known(r) => one(0, r.number() as u64),
-        ResetRead::Unknown(n) => one(52, n as u64),
+        ResetRead::Unknown(n) => one(read.number() as u64, n as u64),
     }
 }
 

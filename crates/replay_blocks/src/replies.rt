@@ -112,22 +112,23 @@ pub(crate) fn media(bytes: &[u8]) -> Told {
     if bytes.len() != 4 {
         return outside();
     }
-    match storage_index([
+    let answer = storage_index([
         byte_at(bytes, 0),
         byte_at(bytes, 1),
         byte_at(bytes, 2),
         byte_at(bytes, 3),
-    ]) {
+    ]);
+    match answer {
         StorageAnswer::Index(index) => storage(index),
-        StorageAnswer::ReplyParseFailure => none(14),
+        StorageAnswer::ReplyParseFailure => none(answer.number() as u64),
     }
 }
 
 // `sec`
 pub(crate) fn sectors(length: usize) -> Told {
-    match sector_count(length) {
+    let answer = sector_count(length);
+    match answer {
         SectorAnswer::Count(count) => one(0, count.0 as u64),
-        SectorAnswer::NotSectors => none(23),
-        SectorAnswer::TooMany => none(24),
+        _ => none(answer.number() as u64),
     }
 }

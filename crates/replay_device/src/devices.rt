@@ -69,19 +69,20 @@ pub fn no_device() -> Device {
 }
 
 // 56 is followed by the inner number and its values.
-fn inner(told: Told) -> Told {
+fn inner(outer: u64, told: Told) -> Told {
     let v = told.values;
     Told {
-        number: 56,
+        number: outer,
         count: std::num::wrapping_add_usize(told.count, 1),
         values: [told.number, v[0], v[1], v[2], v[3], 0, 0, 0, 0],
     }
 }
 
 pub fn refusal(error: MockTransportError, signature: [u8; 4]) -> Told {
+    let number = error.number() as u64;
     match error {
         MockTransportError::InvalidTransferLength { expected, actual } => two(
-            50,
+            number,
             expected as u64,
             actual as u64,
         ),
@@ -89,12 +90,12 @@ pub fn refusal(error: MockTransportError, signature: [u8; 4]) -> Told {
             request_type,
             request,
             value,
-        } => three(51, request_type as u64, request as u64, value as u64),
-        MockTransportError::InvalidReset(opcode) => one(52, opcode as u64),
-        MockTransportError::UnknownCommand(code) => one(53, code.number() as u64),
-        MockTransportError::CommandBlockError(e) => inner(command_error(e, signature)),
-        MockTransportError::FlashSize(n) => one(60, n as u64),
-        _ => none(error.number() as u64),
+        } => three(number, request_type as u64, request as u64, value as u64),
+        MockTransportError::InvalidReset(opcode) => one(number, opcode as u64),
+        MockTransportError::UnknownCommand(code) => one(number, code.number() as u64),
+        MockTransportError::CommandBlockError(e) => inner(number, command_error(e, signature)),
+        MockTransportError::FlashSize(n) => one(number, n as u64),
+        _ => none(number),
     }
 }
 

@@ -18,7 +18,6 @@ use operation::write_lba;
 use replay_answers::refusals::operation_error;
 use replay_answers::told::Answer;
 use replay_answers::told::Tail;
-use replay_answers::told::Told;
 use replay_answers::told::none;
 use replay_answers::told::one;
 use replay_answers::told::outside;
@@ -53,7 +52,6 @@ use replay_lines::names::STP;
 use replay_lines::names::SWI;
 use replay_lines::names::WRL;
 use reply::size::SectorAnswer;
-use steps::Giving;
 use steps::UsbOperation;
 use steps::UsbStep;
 
@@ -139,8 +137,7 @@ fn sector_start(start: UsbStart, size: usize) -> Operated {
     let record = start.operation;
     match answer {
         SectorAnswer::Count(_) => started(current_of(true, record, size)),
-        SectorAnswer::NotSectors => with_answer(plain(none(23)), no_operation()),
-        SectorAnswer::TooMany => with_answer(plain(none(24)), no_operation()),
+        _ => with_answer(plain(none(answer.number() as u64)), no_operation()),
     }
 }
 
@@ -193,8 +190,7 @@ fn step_answer(step: UsbStep, beside: Beside) -> Answer {
         UsbStep::ReadData(n) => plain(two(0, 2, n as u64)),
         UsbStep::ReadStatus(n) => plain(two(0, 2, n as u64)),
         UsbStep::Finished(answer) => finished(answer, beside).as_finish(),
-        UsbStep::OutputTooShort => plain(none(20)),
-        UsbStep::DataDiffers => plain(none(27)),
+        _ => plain(none(step.number() as u64)),
     }
 }
 
@@ -210,20 +206,11 @@ fn step(current: Current, own: &[u8], room: &mut [u8], len: usize) -> Operated {
     )
 }
 
-fn giving_told(giving: Giving) -> Told {
-    match giving {
-        Giving::Taken => none(0),
-        Giving::NotAsked => none(22),
-        Giving::TooMany => none(21),
-        Giving::DataDiffers => none(27),
-    }
-}
-
 fn given(record: UsbOperation, length: usize, bytes: &[u8], own: &mut [u8]) -> Operated {
     let done = record.give(bytes, own);
     let giving = done.answer;
     with_answer(
-        plain(giving_told(giving)),
+        plain(none(giving.number() as u64)),
         current_of(true, done.next, length),
     )
 }

@@ -67,7 +67,7 @@ fn started(start: WholeStart, length: usize) -> Uploaded {
     let upload = upload_of(true, start.upload, length);
     match outcome {
         UploadStart::Started => answered(none(0), upload),
-        UploadStart::ImageTooLong => answered(none(25), no_upload()),
+        UploadStart::ImageTooLong => answered(none(outcome.number() as u64), no_upload()),
     }
 }
 
@@ -102,8 +102,7 @@ fn step_told(step: UploadStep) -> Told {
     match step {
         UploadStep::WriteControl(control) => control_told(control),
         UploadStep::Finished => one(0, 3),
-        UploadStep::OutputTooShort => none(20),
-        UploadStep::ImageDiffers => none(27),
+        _ => none(step.number() as u64),
     }
 }
 

@@ -30,15 +30,14 @@ fn stop_answer(stop: Stop, beside: Beside) -> Answer {
     match stop {
         Stop::Finished(answer) => finished(answer, beside),
         Stop::Device(error) => plain(refusal(error, signature)),
-        Stop::OutputTooShort => plain(none(20)),
-        Stop::DataDiffers => plain(none(27)),
+        _ => plain(none(stop.number() as u64)),
     }
 }
 
 fn run_answer(answer: RunAnswer, beside: Beside) -> Answer {
     match answer {
         RunAnswer::Ended(stop) => stop_answer(stop, beside),
-        RunAnswer::OutOfSteps => plain(none(28)),
+        RunAnswer::OutOfSteps => plain(none(answer.number() as u64)),
     }
 }
 
@@ -70,17 +69,15 @@ fn run(budget: u32, world: World, own: &mut [u8], flash: &mut [u8], store: &[u8]
 
 fn load_stop_told(stop: LoadStop) -> Told {
     match stop {
-        LoadStop::Finished => none(0),
         LoadStop::Device(error) => refusal(error, [0; 4]),
-        LoadStop::OutputTooShort => none(20),
-        LoadStop::ImageDiffers => none(27),
+        _ => none(stop.number() as u64),
     }
 }
 
 fn load_told(answer: LoadAnswer) -> Told {
     match answer {
         LoadAnswer::Ended(stop) => load_stop_told(stop),
-        LoadAnswer::OutOfSteps => none(28),
+        LoadAnswer::OutOfSteps => none(answer.number() as u64),
     }
 }
 
