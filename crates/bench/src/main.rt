@@ -2,7 +2,7 @@
 mod input;
 mod line;
 
-use deck::Bench;
+use deck::bench::Bench;
 use input::CHUNK;
 use input::fill;
 use input::within;

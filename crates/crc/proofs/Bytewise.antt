@@ -1,5 +1,4 @@
 -- The rule of the table, carried to every register and byte by linearity. The two facts on 256 cases are each one computed test.
--- Assumes nothing.
 use Prim.Native.Nat.{ℕ, zero, suc, _+_, _*_, _/_, _%_, _^_, _<_}
 use mathlib.Core.Path.{_≡_, refl, ap, ap₂, sym, _∙_, subst}
 use mathlib.Core.List.{List, [], _∷_}

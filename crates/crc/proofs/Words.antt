@@ -1,5 +1,4 @@
 -- Eight bytes as one number, without a table: x^64 is x^48 + x^20 + 1, the fourth power of x^16 = x^12 + x^5 + 1, so what stands before 64 bits goes into them by shifts.
--- Assumes nothing.
 use Prim.Native.Nat.{ℕ, zero, suc, _+_, _*_, _/_, _%_, _^_, _<_}
 use mathlib.Core.Path.{_≡_, refl, ap, ap₂, sym, subst, _∙_}
 use mathlib.Core.List.{List, [], _∷_}
@@ -8,7 +7,7 @@ use native.Mathlib.Nat.{zero-mul, one-mul, zero-add, add-suc, suc-add, mod-lt, m
 use lib.ListN.{length, getD}
 use lib.Pow.{pow-pos, split, high, shl-shr, shr-shr, shr-lt}
 use lib.Bits.{bitXor, xor-shr, xor-mod, xor-shifted, xor-zero-l, xor-zero-r, xor-self}
-use Rattle.wire.specs.Bytes.{AreBytes}
+use Rattle.promise.specs.Bytes.{AreBytes}
 use Rattle.crc.specs.Check.{polynomial, bitStep, bitsStep, byteStep, crcOver}
 use Rattle.crc.specs.Table.{rows}
 use Rattle.crc.proofs.Xor.{xor-shl, xor-middle}

@@ -1,5 +1,4 @@
 -- CRC-16/IBM-3740, bit by bit: polynomial 0x1021, start 0xFFFF, nothing reflected, no final change, high bit first.
--- Assumes nothing.
 use Prim.Native.Nat.{ℕ, zero, suc, _+_, _*_, _/_, _%_, _^_}
 use mathlib.Core.List.{List, [], _∷_}
 use lib.Bits.{bitXor}

@@ -1,5 +1,4 @@
 -- The table of a whole byte: entry i is what eight zero bits make of a register whose high byte is i and whose low byte is 0.
--- Assumes nothing.
 use Prim.Native.Nat.{ℕ, zero, suc, _*_}
 use mathlib.Core.List.{List, [], _∷_}
 use Rattle.crc.specs.Check.{byteStep}

@@ -4,8 +4,8 @@ use mathlib.Core.Path.{_≡_, ap, sym, _∙_}
 use mathlib.Core.List.{List, []}
 use native.Mathlib.Omega.{arith}
 use Rattle.mock.specs.declared.device.MockState.{MockState}
-use Rattle.deck.specs.declared.Bench.{Bench}
-use Rattle.deck.specs.declared.DeckStep.{DeckStep}
+use Rattle.deck.specs.declared.bench.Bench.{Bench}
+use Rattle.deck.specs.declared.bench.DeckStep.{DeckStep}
 use Rattle.deck.specs.Bench.{freshBench, benchAt, StepMeets}
 
 -- a bench whose first block has the tag 2

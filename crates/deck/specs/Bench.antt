@@ -1,16 +1,15 @@
 -- The bench from block to block: "Block k (from 1) has tag k", whatever came before.
--- Assumes nothing.
 use Prim.Native.Nat.{ℕ, _+_, _%_, _^_}
 use mathlib.Core.Path.{_≡_}
 use mathlib.Core.List.{List}
 use Rattle.mock.specs.declared.device.MockState.{MockState}
-use Rattle.identity.specs.Config.{defaultConfig}
+use Rattle.mock_base.specs.Config.{defaultConfig}
 use Rattle.mock.specs.Device.{freshState}
-use Rattle.verdict.specs.Verdict.{verdictTold, besideDealt}
-use Rattle.verdict.specs.Deal.{Deal, head}
-use Rattle.deck.specs.declared.Bench.{Bench}
-use Rattle.deck.specs.declared.DeckStep.{DeckStep}
-use Rattle.dealing.specs.Dealing.{dealBlock}
+use Rattle.deck.specs.Verdict.{verdictTold, besideDealt}
+use Rattle.deck.specs.Deal.{Deal, head}
+use Rattle.deck.specs.declared.bench.Bench.{Bench}
+use Rattle.deck.specs.declared.bench.DeckStep.{DeckStep}
+use Rattle.deck.specs.Dealing.{dealBlock}
 
 -- "The device starts as the Rust's default"
 abbrev pub freshBench : ℕ → Bench

@@ -1,5 +1,4 @@
 -- One law for each branch of a definition.
--- Assumes nothing.
 use Prim.Native.Nat.{ℕ, _+_, _-_, _<_, _≤_}
 use mathlib.Core.Path.{_≡_, refl}
 use mathlib.Core.Bool.{true, false}
@@ -9,16 +8,16 @@ use lib.ListN.{length, take}
 use types.Run.{OneOf, miss}
 use denote.Enum.Declared.{tagOf}
 use borrow.Author.Tests.{eq-eqb, ne-eqb, lt-ltb, le-ltb}
-use Rattle.wire.specs.Told.{given, refused, andThen}
-use Rattle.wire.specs.Rules.{unless}
-use Rattle.transfer.proofs.MaskRomSteps.{the-type}
-use Rattle.transfer.specs.declared.MaskRomSteps.{MaskRomSteps}
-use Rattle.transfer.specs.declared.MaskRomSteps.the-variants.{Writing, Check, Dummy, Done}
+use Rattle.promise.specs.Told.{given, refused, andThen}
+use Rattle.promise.specs.Rules.{unless}
+use Rattle.maskrom_transfer.proofs.MaskRomSteps.{the-type}
+use Rattle.maskrom_transfer.specs.declared.MaskRomSteps.{MaskRomSteps}
+use Rattle.maskrom_transfer.specs.declared.MaskRomSteps.the-variants.{Writing, Check, Dummy, Done}
 use Rattle.maskrom.specs.Answers.{longest, tooLong, closedAlready, differs, control, took, filled, writes}
-use Rattle.transfer.specs.Moves.{register, movesAt}
-use Rattle.transfer.specs.Does.{does}
-use Rattle.transfer.specs.Sending.{tooShort}
-use Rattle.transfer.proofs.Cases.{send-20, send-acts}
+use Rattle.maskrom_transfer.specs.Moves.{register, movesAt}
+use Rattle.promise.specs.Does.{does}
+use Rattle.maskrom_transfer.specs.Sending.{tooShort}
+use Rattle.maskrom_transfer.proofs.Cases.{send-20, send-acts}
 use Rattle.maskrom.specs.declared.MaskRomOperation.{MaskRomOperation}
 use Rattle.maskrom.specs.declared.WholeUpload.{WholeUpload}
 use Rattle.maskrom.specs.PartWise.{waiting, held, closed, holding, takes, partStep, asks, withMoved, closeStep}

@@ -1,5 +1,4 @@
 -- Laws on lists that the library lacks.
--- Assumes nothing.
 use Prim.Native.Nat.{ℕ, zero, suc, _+_, _-_, _≤_, min}
 use mathlib.Core.Path.{_≡_, refl, ap, sym, _∙_}
 use mathlib.Core.List.{List, [], _∷_, _++_, append-nil}
@@ -8,8 +7,8 @@ use native.Mathlib.Omega.{arith}
 use lib.ListN.{length, take, drop, length-append, length-take, length-drop, drop-of-length-le}
 use lib.Seq.{take-all, take-length, take-append-seam, drop-drop}
 use borrow.Rule.Slice.PartMut.{putMid}
-use Rattle.wire.specs.Bytes.{front}
-use Rattle.transfer.proofs.Lists.{take-min}
+use Rattle.promise.specs.Bytes.{front}
+use Rattle.maskrom_transfer.proofs.Lists.{take-min}
 
 pub take-front : (bs old : List ℕ) → take (length bs) (front bs old) ≡ bs
 take-front bs old = take-append-seam bs (drop (length bs) old)

@@ -1,17 +1,16 @@
--- Two answers that one promise allows are equal: with the record handed back and the bytes left (`Rattle.transfer.proofs.Unique`'s `same`) nothing is open.
--- Assumes nothing.
+-- Two answers that one promise allows are equal: with the record handed back and the bytes left (`Rattle.maskrom_transfer.proofs.Unique`'s `same`) nothing is open.
 use Prim.Native.Nat.{ℕ, _<_}
 use mathlib.Core.Path.{_≡_, refl, ap, ap₂, sym, _∙_}
 use mathlib.Core.Bool.{Bool}
 use mathlib.Core.List.{List}
 use lib.ListN.{length}
 use lib.Dec.{eqb}
-use Rattle.wire.specs.Told.{Told, given, refused}
-use Rattle.wire.specs.Rules.{pick}
-use Rattle.wire.specs.Bytes.{front}
-use Rattle.transfer.specs.Does.{Does, sent, after, Meets}
-use Rattle.transfer.specs.Sending.{tooShort}
-use Rattle.transfer.proofs.Unique.{same}
+use Rattle.promise.specs.Told.{Told, given, refused}
+use Rattle.promise.specs.Rules.{pick}
+use Rattle.promise.specs.Bytes.{front}
+use Rattle.promise.specs.Does.{Does, sent, after, Meets}
+use Rattle.maskrom_transfer.specs.Sending.{tooShort}
+use Rattle.maskrom_transfer.proofs.Unique.{same}
 use Rattle.maskrom.proofs.Cases.{close-20}
 use Rattle.maskrom.specs.declared.MaskRomOperation.{MaskRomOperation}
 use Rattle.maskrom.specs.declared.WholeUpload.{WholeUpload}

@@ -8,18 +8,18 @@ use native.Mathlib.Decide.{ℕ-discrete}
 use lib.ListN.{length, take, drop, length-append, length-take}
 use lib.Seq.{take-append-seam}
 use lib.Dec.{eqb, ltb}
-use Rattle.wire.specs.Told.{Told, given, refused, andThen}
-use Rattle.wire.specs.Rules.{Rule, rule, unless, pick}
-use Rattle.wire.specs.Bytes.{front}
-use Rattle.transfer.specs.declared.Moved.{Moved}
-use Rattle.transfer.specs.declared.MaskRomSteps.{MaskRomSteps}
-use Rattle.transfer.specs.declared.MaskRomSteps.the-variants.{Writing, Check, Dummy, Done}
+use Rattle.promise.specs.Told.{Told, given, refused, andThen}
+use Rattle.promise.specs.Rules.{Rule, rule, unless, pick}
+use Rattle.promise.specs.Bytes.{front}
+use Rattle.maskrom_transfer.specs.declared.Moved.{Moved}
+use Rattle.maskrom_transfer.specs.declared.MaskRomSteps.{MaskRomSteps}
+use Rattle.maskrom_transfer.specs.declared.MaskRomSteps.the-variants.{Writing, Check, Dummy, Done}
 use Rattle.maskrom.specs.declared.MaskRomOperation.{MaskRomOperation}
 use Rattle.maskrom.specs.declared.WholeUpload.{WholeUpload}
-use Rattle.transfer.specs.Moves.{blockSize, register, writing, movesAt}
-use Rattle.transfer.specs.Does.{Does, does, sent}
-use Rattle.transfer.specs.Sending.{tooShort, moved, sendStep}
-use Rattle.transfer.proofs.Cases.{length-check, writing-block, writing-pad, writing-dummy, writing-last}
+use Rattle.maskrom_transfer.specs.Moves.{blockSize, register, writing, movesAt}
+use Rattle.promise.specs.Does.{Does, does, sent}
+use Rattle.maskrom_transfer.specs.Sending.{tooShort, moved, sendStep}
+use Rattle.maskrom_transfer.proofs.Cases.{length-check, writing-block, writing-pad, writing-dummy, writing-last}
 use Rattle.maskrom.specs.Answers.{longest, tooLong, closedAlready, differs, control, took, filled}
 use Rattle.maskrom.specs.PartWise.{waiting, held, closed, holding, takes, partStep, asks, withMoved, closeStep}
 use Rattle.maskrom.specs.Whole.{chunk, sentOn, sendsOn, wholeStep}

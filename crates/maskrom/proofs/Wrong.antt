@@ -7,12 +7,12 @@ use native.Mathlib.Omega.{arith}
 use lib.ListN.{length, replicate}
 use lib.Dec.{lit≤}
 use borrow.Author.Tests.{lt-ltb, le-ltb}
-use Rattle.wire.specs.Told.{Told, given, refused, number, andThen}
-use Rattle.wire.specs.Rules.{unless, pick}
-use Rattle.wire.specs.Bytes.{front}
-use Rattle.transfer.specs.Moves.{writing, movesAt}
-use Rattle.transfer.specs.Does.{Does, Meets, said, sent, after}
-use Rattle.transfer.specs.Sending.{sendStep}
+use Rattle.promise.specs.Told.{Told, given, refused, number, andThen}
+use Rattle.promise.specs.Rules.{unless, pick}
+use Rattle.promise.specs.Bytes.{front}
+use Rattle.maskrom_transfer.specs.Moves.{writing, movesAt}
+use Rattle.promise.specs.Does.{Does, Meets, said, sent, after}
+use Rattle.maskrom_transfer.specs.Sending.{sendStep}
 use Rattle.maskrom.specs.declared.Control.{Control}
 use Rattle.maskrom.specs.declared.MaskRomOperation.{MaskRomOperation}
 use Rattle.maskrom.specs.declared.WholeUpload.{WholeUpload}

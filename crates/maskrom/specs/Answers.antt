@@ -1,9 +1,8 @@
 -- The document's number and values of each answer.
--- Assumes nothing.
 use Prim.Native.Nat.{ℕ}
 use mathlib.Core.List.{[]}
-use Rattle.wire.specs.Told.{Told, given, refused}
-use Rattle.transfer.specs.Sending.{tooShort}
+use Rattle.promise.specs.Told.{Told, given, refused}
+use Rattle.maskrom_transfer.specs.Sending.{tooShort}
 use Rattle.maskrom.specs.declared.Control.{Control}
 use Rattle.maskrom.specs.declared.PartStep.{PartStep}
 use Rattle.maskrom.specs.declared.PartStep.the-variants as part

@@ -1,21 +1,20 @@
 -- The part-wise upload: parts, then closing steps.
--- Assumes nothing.
 use Prim.Native.Nat.{ℕ, _+_, _-_, _%_}
 use mathlib.Core.Bool.{Bool, true, false}
 use mathlib.Core.List.{List, [], _∷_, _++_}
 use lib.ListN.{length, take, drop, replicate}
 use lib.Dec.{eqb, ltb}
-use Rattle.wire.specs.Told.{Told, given, andThen}
-use Rattle.wire.specs.Rules.{pick, rule, unless}
+use Rattle.promise.specs.Told.{Told, given, andThen}
+use Rattle.promise.specs.Rules.{pick, rule, unless}
 use Rattle.crc.specs.Check.{start}
-use Rattle.transfer.specs.declared.MaskRomSteps.{MaskRomSteps}
-use Rattle.transfer.specs.declared.MaskRomSteps.the-variants.{Writing, Check, Dummy, Done}
+use Rattle.maskrom_transfer.specs.declared.MaskRomSteps.{MaskRomSteps}
+use Rattle.maskrom_transfer.specs.declared.MaskRomSteps.the-variants.{Writing, Check, Dummy, Done}
 use Rattle.maskrom.specs.declared.MaskRomOperation.{MaskRomOperation}
-use Rattle.transfer.specs.declared.Moved.{Moved}
-use Rattle.transfer.specs.Moves.{blockSize, register}
+use Rattle.maskrom_transfer.specs.declared.Moved.{Moved}
+use Rattle.maskrom_transfer.specs.Moves.{blockSize, register}
 use Rattle.maskrom.specs.Answers.{longest, tooLong, closedAlready, control, Handed, took, filled, Asks, writes, finish}
-use Rattle.transfer.specs.Does.{Does, does}
-use Rattle.transfer.specs.Sending.{tooShort, sendStep}
+use Rattle.promise.specs.Does.{Does, does}
+use Rattle.maskrom_transfer.specs.Sending.{tooShort, sendStep}
 
 abbrev pub fresh : ℕ → Bool → MaskRomOperation
 fresh area checked = record {

@@ -1,23 +1,22 @@
 -- The whole upload: the image is lent at every step, and the record holds none of it.
--- Assumes nothing.
 use Prim.Native.Nat.{ℕ, _+_}
 use mathlib.Core.Bool.{Bool, not}
 use mathlib.Core.Path.{_≡_}
 use mathlib.Core.List.{List, [], _∷_}
 use lib.ListN.{length, take, drop}
 use lib.Dec.{eqb, ltb}
-use Rattle.wire.specs.Told.{Told, given, andThen}
-use Rattle.wire.specs.Rules.{rule, unless}
+use Rattle.promise.specs.Told.{Told, given, andThen}
+use Rattle.promise.specs.Rules.{rule, unless}
 use Rattle.crc.specs.Check.{start}
-use Rattle.transfer.specs.declared.MaskRomSteps.{MaskRomSteps}
-use Rattle.transfer.specs.declared.MaskRomSteps.the-variants.{Writing, Check, Dummy, Done}
+use Rattle.maskrom_transfer.specs.declared.MaskRomSteps.{MaskRomSteps}
+use Rattle.maskrom_transfer.specs.declared.MaskRomSteps.the-variants.{Writing, Check, Dummy, Done}
 use Rattle.maskrom.specs.declared.WholeUpload.{WholeUpload}
 use Rattle.maskrom.specs.declared.WholeStart.{WholeStart}
-use Rattle.transfer.specs.declared.Moved.{Moved}
-use Rattle.transfer.specs.Moves.{blockSize, register}
+use Rattle.maskrom_transfer.specs.declared.Moved.{Moved}
+use Rattle.maskrom_transfer.specs.Moves.{blockSize, register}
 use Rattle.maskrom.specs.Answers.{longest, tooLong, differs, startTold, Asks}
-use Rattle.transfer.specs.Does.{Does, does, said, after}
-use Rattle.transfer.specs.Sending.{tooShort, sendStep}
+use Rattle.promise.specs.Does.{Does, does, said, after}
+use Rattle.maskrom_transfer.specs.Sending.{tooShort, sendStep}
 use Rattle.maskrom.specs.PartWise.{asks}
 
 abbrev pub freshWhole : ℕ → Bool → ℕ → WholeUpload

@@ -4,16 +4,16 @@ ghost use mathlib.Core.Path.{_≡_};
 ghost use mathlib.Core.Bool.{true, false};
 ghost use Prim.Native.Nat.{_+_, _≤_, min};
 ghost use lib.ListN.{length, take};
-ghost use Rattle.wire.specs.Told.{given, number};
-ghost use Rattle.transfer.specs.Moves.{register};
-ghost use Rattle.transfer.specs.Does.{Meets};
+ghost use Rattle.promise.specs.Told.{given, number};
+ghost use Rattle.maskrom_transfer.specs.Moves.{register};
+ghost use Rattle.promise.specs.Does.{Meets};
 ghost use Rattle.maskrom.specs.Answers.{control, partTold, stepTold, startTold};
 ghost use Rattle.maskrom.specs.PartWise.{fresh, waiting, withBlock, holding, partStep, asks, withMoved, closeStep};
 ghost use Rattle.maskrom.specs.Whole.{freshWhole, StartMeets, most, sentOn, sendsOn, wholeStep};
 ghost use Rattle.maskrom.specs.Code.{parted, closedWith, steppedWith};
-use transfer::MaskRomSteps;
-use transfer::Moved;
-use transfer::Sent;
+use maskrom_transfer::MaskRomSteps;
+use maskrom_transfer::Moved;
+use maskrom_transfer::Sent;
 
 const BLOCK: usize = 4096;
 
@@ -210,7 +210,7 @@ impl MaskRomOperation {
         let at = (self.taken % 4096) as usize;
         let mut block = self.block;
         bytes::copy(more, &mut block[at..]);
-        let crc = transfer::covered(self.checked, self.crc, more);
+        let crc = maskrom_transfer::covered(self.checked, self.crc, more);
         self.with(self.taken + (more.len() as u32), crc, block)
     }
 
@@ -274,7 +274,7 @@ impl MaskRomOperation {
         let n = (self.taken % 4096) as usize;
         let steps = self.steps;
         let block = self.block;
-        let sent = transfer::send(steps, self.checked, self.crc, block, n, out);
+        let sent = maskrom_transfer::send(steps, self.checked, self.crc, block, n, out);
         let Sent::Moved(to) = sent else {
             return self.after_close(UploadStep::OutputTooShort);
         };
@@ -376,9 +376,9 @@ impl WholeUpload {
     {
         let n = chunk.len();
         let steps = self.steps;
-        let crc = transfer::covered(self.checked, self.crc, chunk);
+        let crc = maskrom_transfer::covered(self.checked, self.crc, chunk);
         let block = block_of(chunk);
-        let sent = transfer::send(steps, self.checked, crc, block, n, out);
+        let sent = maskrom_transfer::send(steps, self.checked, crc, block, n, out);
         let Sent::Moved(to) = sent else {
             return self.after_step(UploadStep::OutputTooShort);
         };

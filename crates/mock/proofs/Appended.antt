@@ -1,15 +1,14 @@
 -- An append's answer, as the device gives it.
--- Assumes nothing.
 use mathlib.Core.Path.{_≡_, refl}
 use mathlib.Core.List.{[]}
-use Rattle.wire.specs.Told.{Told, refused}
-use Rattle.block.specs.Signature.{noSignature}
-use Rattle.areas.specs.Append.{areaTold}
-use Rattle.areas.specs.declared.AreaAnswer.{AreaAnswer}
-use Rattle.areas.specs.declared.AreaAnswer.the-variants.{Written, NoSlot, SlotFull}
-use Rattle.answer.specs.Told.{Answers, errorValues}
-use Rattle.answer.specs.declared.error.MockTransportError.the-variants as error
-use Rattle.answer.proofs.Telling.{answers-error, answers-done}
+use Rattle.promise.specs.Told.{Told, refused}
+use Rattle.protocol_bytes.specs.Signature.{noSignature}
+use Rattle.mock_areas.specs.Append.{areaTold}
+use Rattle.mock_areas.specs.declared.AreaAnswer.{AreaAnswer}
+use Rattle.mock_areas.specs.declared.AreaAnswer.the-variants.{Written, NoSlot, SlotFull}
+use Rattle.mock_base.specs.Told.{Answers, errorValues}
+use Rattle.mock_base.specs.declared.error.MockTransportError.the-variants as error
+use Rattle.mock_base.proofs.Telling.{answers-error, answers-done}
 use Rattle.mock.specs.Code.{areaResult}
 
 pub area-answers : (answer : AreaAnswer) {told : Told Unit} → areaTold answer ≡ told

@@ -1,14 +1,13 @@
 -- Control calls: they keep the session; a refused one changes nothing; areas by their numbers.
--- Assumes nothing.
 use Prim.Native.Nat.{ℕ}
 use mathlib.Core.Path.{_≡_, refl, ap}
 use mathlib.Core.List.{List}
 use lib.ListN.{length}
-use Rattle.wire.specs.Told.{refused}
-use Rattle.lent.proofs.Outcome.{either-way}
-use Rattle.areas.specs.Append.{appendStep}
-use Rattle.areas.specs.Contents.{bytesAt, contents, Sound, gains}
-use Rattle.areas.proofs.Holdings.{append-grows, append-refused}
+use Rattle.promise.specs.Told.{refused}
+use Rattle.promise.proofs.Outcome.{either-way}
+use Rattle.mock_areas.specs.Append.{appendStep}
+use Rattle.mock_areas.specs.Contents.{bytesAt, contents, Sound, gains}
+use Rattle.mock_areas.proofs.Holdings.{append-grows, append-refused}
 use Rattle.mock.specs.Device.{Call, sessionOf, controlRules, writeControl, withAreas, maskromArea}
 use Rattle.mock.specs.declared.device.MockState.{MockState}
 

@@ -1,5 +1,4 @@
 -- What a bulk call leaves of the record.
--- Assumes nothing.
 use Prim.Native.Nat.{ℕ}
 use mathlib.Core.Path.{_≡_, refl}
 use mathlib.Core.List.{List}

@@ -1,10 +1,9 @@
 -- Two answers that one contract allows are equal, with the records and the bytes left.
--- Assumes nothing.
 use mathlib.Core.Path.{_≡_, ap₂, sym, _∙_}
 use mathlib.Core.List.{List}
 use Prim.Native.Nat.{ℕ}
-use Rattle.answer.specs.declared.error.MockAnswer.{MockAnswer}
-use Rattle.answer.proofs.Unique.{answers-unique}
+use Rattle.mock_base.specs.declared.error.MockAnswer.{MockAnswer}
+use Rattle.mock_base.proofs.Unique.{answers-unique}
 use Rattle.mock.specs.Device.{Call, MockMeets, Creation, CreateMeets}
 use Rattle.mock.specs.declared.device.MockState.{MockState}
 use Rattle.mock.specs.declared.device.MockStep.{MockStep}

@@ -4,29 +4,29 @@ use mathlib.Core.Path.{_≡_, ap, sym, _∙_}
 use mathlib.Core.List.{List, [], _∷_}
 use native.Mathlib.Omega.{arith}
 use lib.ListN.{getD, replicate}
-use Rattle.wire.specs.Told.{number, andThen}
-use Rattle.wire.specs.Rules.{unless}
-use Rattle.lent.specs.Outcome.{orRefuse}
-use Rattle.lent.specs.Over.{over}
-use Rattle.codes.specs.Numbers.{resetNumber}
-use Rattle.codes.specs.declared.ResetOpcode.the-variants.{Reset, Maskrom}
+use Rattle.promise.specs.Told.{number, andThen}
+use Rattle.promise.specs.Rules.{unless}
+use Rattle.promise.specs.Outcome.{orRefuse}
+use Rattle.promise.specs.Over.{over}
+use Rattle.protocol_codes.specs.Numbers.{resetNumber}
+use Rattle.protocol_codes.specs.declared.ResetOpcode.the-variants.{Reset, Maskrom}
 use Rattle.protocol.specs.Commands.{writeLbaCommand}
 use Rattle.protocol.specs.declared.CommandBlock.{CommandBlock}
-use Rattle.areas.specs.Slots.{freshAreas, passes, firstAt, heldAt, place, areaFound}
-use Rattle.areas.specs.Append.{heldBy, appendRules, appendedAt, appendStep}
-use Rattle.areas.specs.declared.AreaFound.{AreaFound}
-use Rattle.areas.specs.declared.AreaFound.the-variants.{NotHeld, Held}
-use Rattle.answer.specs.Flash.{flashRules, flashSectors, fitsIn}
-use Rattle.answer.specs.Told.{resultTold}
-use Rattle.transaction.specs.Turn.{refuses, done, hasCode, isOut, movedBy, replySize}
-use Rattle.transaction.specs.Table.{sectorTurn, writeIoTurn, writeRow, statusTurn, readRow}
-use Rattle.transaction.specs.declared.session.CommandState.{CommandState}
-use Rattle.transaction.specs.declared.session.CommandState.the-variants.{None, IO, Status}
-use Rattle.transaction.specs.declared.session.LastReset.{LastReset}
-use Rattle.transaction.specs.declared.session.LastReset.the-variants as reset
-use Rattle.identity.specs.declared.MockDeviceConfig.{MockDeviceConfig}
-use Rattle.effects.specs.Effects.{flashAfter}
-use Rattle.effects.specs.Steps.{writeStepOf, writeStep, readStepOf, readStep}
+use Rattle.mock_areas.specs.Slots.{freshAreas, passes, firstAt, heldAt, place, areaFound}
+use Rattle.mock_areas.specs.Append.{heldBy, appendRules, appendedAt, appendStep}
+use Rattle.mock_areas.specs.declared.AreaFound.{AreaFound}
+use Rattle.mock_areas.specs.declared.AreaFound.the-variants.{NotHeld, Held}
+use Rattle.mock_base.specs.Flash.{flashRules, flashSectors, fitsIn}
+use Rattle.mock_base.specs.Told.{resultTold}
+use Rattle.mock_table.specs.Turn.{refuses, done, hasCode, isOut, movedBy, replySize}
+use Rattle.mock_table.specs.Table.{sectorTurn, writeIoTurn, writeRow, statusTurn, readRow}
+use Rattle.mock_table.specs.declared.session.CommandState.{CommandState}
+use Rattle.mock_table.specs.declared.session.CommandState.the-variants.{None, IO, Status}
+use Rattle.mock_table.specs.declared.session.LastReset.{LastReset}
+use Rattle.mock_table.specs.declared.session.LastReset.the-variants as reset
+use Rattle.mock_base.specs.declared.config.MockDeviceConfig.{MockDeviceConfig}
+use Rattle.mock_effects.specs.Effects.{flashAfter}
+use Rattle.mock_effects.specs.Steps.{writeStepOf, writeStep, readStepOf, readStep}
 use Rattle.mock.specs.Device.{MockMeets, CreateMeets, created, freshState, writeBulk, readBulk, isUpload, controlRules, writeControl, maskromArea}
 use Rattle.mock.specs.declared.device.MockState.{MockState}
 use Rattle.mock.specs.declared.device.MockStep.{MockStep}

@@ -1,13 +1,13 @@
 -- The steps as the code makes them, for the contracts of its private functions.
-use Rattle.block.specs.Signature.{noSignature}
-use Rattle.areas.specs.declared.AreaStep.{AreaStep}
-use Rattle.areas.specs.declared.AreaAnswer.{AreaAnswer}
-use Rattle.areas.specs.declared.AreaAnswer.the-variants.{Written, NoSlot, SlotFull}
-use Rattle.answer.specs.declared.error.MockTransportError.{MockTransportError}
-use Rattle.answer.specs.declared.error.MockTransportError.the-variants as error
-use Rattle.answer.specs.declared.error.MockResult.{MockResult}
-use Rattle.answer.specs.declared.error.MockResult.the-variants.{Done, Refused}
-use Rattle.effects.specs.declared.SessionStep.{SessionStep}
+use Rattle.protocol_bytes.specs.Signature.{noSignature}
+use Rattle.mock_areas.specs.declared.AreaStep.{AreaStep}
+use Rattle.mock_areas.specs.declared.AreaAnswer.{AreaAnswer}
+use Rattle.mock_areas.specs.declared.AreaAnswer.the-variants.{Written, NoSlot, SlotFull}
+use Rattle.mock_base.specs.declared.error.MockTransportError.{MockTransportError}
+use Rattle.mock_base.specs.declared.error.MockTransportError.the-variants as error
+use Rattle.mock_base.specs.declared.error.MockResult.{MockResult}
+use Rattle.mock_base.specs.declared.error.MockResult.the-variants.{Done, Refused}
+use Rattle.mock_effects.specs.declared.SessionStep.{SessionStep}
 use Rattle.mock.specs.Device.{withSession, withAreas}
 use Rattle.mock.specs.declared.device.MockState.{MockState}
 use Rattle.mock.specs.declared.device.MockStep.{MockStep}

@@ -1,25 +1,24 @@
 -- Every call over the device's whole record.
--- Assumes nothing.
 use Prim.Native.Nat.{ℕ}
 use mathlib.Core.Path.{_≡_}
 use mathlib.Core.Bool.{Bool, false, not}
 use mathlib.Core.List.{List, [], _∷_}
 use lib.Dec.{eqb}
 use lib.ListN.{length}
-use Rattle.wire.specs.Told.{Told, given, refused, andThen}
-use Rattle.wire.specs.Rules.{Rule, rule, pick}
-use Rattle.lent.specs.Outcome.{orRefuse}
-use Rattle.areas.specs.Slots.{freshAreas, areaFound}
-use Rattle.areas.specs.Append.{appendStep}
-use Rattle.areas.specs.declared.Areas.{Areas}
-use Rattle.areas.specs.declared.AreaFound.{AreaFound}
-use Rattle.answer.specs.Told.{Answers}
-use Rattle.answer.specs.Flash.{flashSectors}
-use Rattle.transaction.specs.declared.session.Session.{Session}
-use Rattle.transaction.specs.declared.session.CommandState.the-variants as state
-use Rattle.transaction.specs.declared.session.LastReset.the-variants as reset
-use Rattle.effects.specs.Steps.{Step, writeStep, readStep}
-use Rattle.identity.specs.declared.MockDeviceConfig.{MockDeviceConfig}
+use Rattle.promise.specs.Told.{Told, given, refused, andThen}
+use Rattle.promise.specs.Rules.{Rule, rule, pick}
+use Rattle.promise.specs.Outcome.{orRefuse}
+use Rattle.mock_areas.specs.Slots.{freshAreas, areaFound}
+use Rattle.mock_areas.specs.Append.{appendStep}
+use Rattle.mock_areas.specs.declared.Areas.{Areas}
+use Rattle.mock_areas.specs.declared.AreaFound.{AreaFound}
+use Rattle.mock_base.specs.Told.{Answers}
+use Rattle.mock_base.specs.Flash.{flashSectors}
+use Rattle.mock_table.specs.declared.session.Session.{Session}
+use Rattle.mock_table.specs.declared.session.CommandState.the-variants as state
+use Rattle.mock_table.specs.declared.session.LastReset.the-variants as reset
+use Rattle.mock_effects.specs.Steps.{Step, writeStep, readStep}
+use Rattle.mock_base.specs.declared.config.MockDeviceConfig.{MockDeviceConfig}
 use Rattle.mock.specs.declared.device.MockState.{MockState}
 use Rattle.mock.specs.declared.device.MockStep.{MockStep}
 

@@ -1,3 +1,3 @@
 // The configuration that a device is made from.
-pub use identity::DEFAULT_SECTORS;
-pub use identity::MockDeviceConfig;
+pub use mock_base::config::DEFAULT_SECTORS;
+pub use mock_base::config::MockDeviceConfig;

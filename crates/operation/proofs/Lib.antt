@@ -1,5 +1,16 @@
--- `Rounds` says how many steps each operation takes, `Unique` that starts that a contract allows are equal,
--- `Wrong` programs that the contracts rule out.
+-- `Lists` has laws on copied bytes, `Cases` one law for each way that a step or a giving can go, `Laws` what holds of every record, `Rounds` how many steps an
+-- operation takes, `Unique` that answers that a contract allows are equal, `Short` what a status of 4 bytes is read as,
+-- `Numbered` the number of a finish, `Wrong` programs that the contracts rule out.
+pub mod Lists
+pub mod Cases
+pub mod Numbered
+pub mod Laws
 pub mod Rounds
 pub mod Unique
+pub mod Short
 pub mod Wrong
+-- `Rounds` says how many steps each operation takes, `Unique` that starts that a contract allows are equal,
+-- `Wrong` programs that the contracts rule out.
+pub mod StartRounds
+pub mod StartUnique
+pub mod WrongStarts

@@ -1,65 +1,162 @@
--- How many steps each operation takes from its start to its finish.
--- Assumes nothing.
-use Prim.Native.Nat.{ℕ, _<_}
-use mathlib.Core.Path.{_≡_, refl}
+-- How many steps an operation takes to its finish: 3, or 4 with data, whatever it is given.
+use Prim.Native.Nat.{ℕ, suc, _+_, _<_, _≤_}
+use mathlib.Core.Path.{_≡_, refl, ap, ap₂, _∙_}
+use mathlib.Core.Bool.{Bool, true, false}
+use mathlib.Core.List.{List, [], _∷_}
 use native.Mathlib.Omega.{arith}
-use Rattle.codes.specs.declared.ResetOpcode.{ResetOpcode}
-use Rattle.codes.specs.declared.StorageIndex.{StorageIndex}
-use Rattle.protocol.specs.Commands.{chipInfoCommand, flashIdCommand, flashInfoCommand, capabilityCommand, storageCommand, eraseLbaCommand, eraseForceCommand, resetCommand, switchCommand, readLbaCommand, writeLbaCommand}
-use Rattle.finish.specs.declared.Kind.the-variants as kind
-use Rattle.steps.specs.Record.{fresh}
-use Rattle.steps.proofs.Rounds.{leftAt, left, fresh-with}
+use native.Mathlib.Nat.{add-zero}
+use borrow.Author.Tests.{eq-eqb, ne-eqb}
+use lib.Dec.{eqb}
+use lib.ListN.{length}
+use Rattle.promise.specs.Rules.{pick}
+use Rattle.protocol.specs.declared.CommandBlock.{CommandBlock}
+use Rattle.operation_finish.specs.declared.Kind.{Kind}
+use Rattle.operation.specs.declared.steps.Operation.{Operation}
+use Rattle.operation.specs.declared.steps.Operation.the-variants as operation
+use Rattle.operation.specs.declared.steps.IOBytes.{IOBytes}
+use Rattle.operation.specs.declared.steps.IOBytes.the-variants as io
+use Rattle.operation.specs.declared.steps.UsbOperation.{UsbOperation}
+use Rattle.operation.specs.Record.{fresh, ioOf, transferLength, afterCommand}
+use Rattle.operation.specs.Step.{Step, ioStep, statusStep, stepOf, usbStep}
+use Rattle.operation.specs.Give.{usbGive}
+use Rattle.operation.proofs.Cases.{command-out}
+use Rattle.operation.proofs.Laws.{data-inband, data-read, data-write, give-keeps}
 
--- a reply comes in a step of its own
-module _ (tag : ℕ) where
-  pub chip-info-takes : left (fresh kind.ChipInfo (chipInfoCommand tag)) ≡ 4
-  unfolding leftAt
-  chip-info-takes = refl
+-- the steps from there to the finish, with it: "3 or 4 for an unrefused operation"
+unfoldable pub leftAt : Operation → ℕ → ℕ
+leftAt operation.CommandBlock l = pick (eqb l 0) 3 4
+leftAt operation.IO l = 3
+leftAt operation.CommandStatus l = 2
+leftAt operation.Finish l = 1
 
-  pub flash-id-takes : left (fresh kind.FlashId (flashIdCommand tag)) ≡ 4
-  unfolding leftAt
-  flash-id-takes = refl
+abbrev pub left : UsbOperation → ℕ
+left op = leftAt (op .next) (transferLength op)
 
-  pub flash-info-takes : left (fresh kind.FlashInfo (flashInfoCommand tag)) ≡ 4
-  unfolding leftAt
-  flash-info-takes = refl
+-- a fresh operation takes 3 steps, or 4 with data
+pub fresh-without : (kind : Kind) (command : CommandBlock) → command .«transfer_length» ≡ 0 → left (fresh kind command) ≡ 3
+unfolding leftAt
+fresh-without kind command e = rw (eq-eqb (command .«transfer_length») 0 e)
 
-  pub capability-takes : left (fresh kind.Capability (capabilityCommand tag)) ≡ 4
-  unfolding leftAt
-  capability-takes = refl
+pub fresh-with : (kind : Kind) (command : CommandBlock) → (command .«transfer_length» ≡ 0 → ⊥) → left (fresh kind command) ≡ 4
+unfolding leftAt
+fresh-with kind command h = rw (ne-eqb (command .«transfer_length») 0 h)
 
-  pub storage-takes : left (fresh kind.Storage (storageCommand tag)) ≡ 4
-  unfolding leftAt
-  storage-takes = refl
+-- what is lent is long enough: 31 bytes of output, and the transfer length of data
+pub record Fits (op : UsbOperation) (lent room : ℕ) : Type 0 where
+  pub output : 31 ≤ room
+  pub enough : transferLength op ≤ lent
 
-  -- what moves no data takes three
-  pub erase-lba-takes : (first count : ℕ) → left (fresh kind.Nothing (eraseLbaCommand tag first count)) ≡ 3
-  unfolding leftAt
-  erase-lba-takes first count = refl
+after-left : (none : Bool) (l : ℕ) → suc (leftAt (pick none operation.CommandStatus operation.IO) l) ≡ pick none 3 4
+unfolding leftAt
+after-left true l = refl
+after-left false l = refl
 
-  pub erase-force-takes : (first count : ℕ) → left (fresh kind.Nothing (eraseForceCommand tag first count)) ≡ 3
-  unfolding leftAt
-  erase-force-takes first count = refl
+-- one step of one that isn't at its finish
+Falls : UsbOperation → Step → ℕ → Type 0
+Falls op s n = (suc (left (s .next)) ≡ n) × (transferLength (s .next) ≡ transferLength op)
 
-  pub reset-takes : (opcode : ResetOpcode) → left (fresh kind.Nothing (resetCommand tag opcode)) ≡ 3
-  unfolding leftAt
-  reset-takes opcode = refl
+io-falls : (here : IOBytes) (op : UsbOperation) (lent : ℕ) → transferLength op ≤ lent → Falls op (ioStep here op lent) 3
+unfolding Falls leftAt
+io-falls io.Inband op lent h = rw (data-inband op lent) (refl, refl)
+io-falls io.Read op lent h = rw (data-read op lent h) (refl, refl)
+io-falls io.Write op lent h = rw (data-write op lent h) (refl, refl)
 
-  pub switch-takes : (index : StorageIndex) → left (fresh kind.Nothing (switchCommand tag index)) ≡ 3
-  unfolding leftAt
-  switch-takes index = refl
+falls-at : (here : Operation) (op : UsbOperation) (lent room : ℕ) → (here ≡ operation.Finish → ⊥) → Fits op lent room
+    → Falls op (stepOf here op lent room) (leftAt here (transferLength op))
+unfolding stepOf leftAt Falls statusStep afterCommand
+falls-at operation.CommandBlock op lent room h fits =
+    rw (command-out op room (fits .output)) (after-left (eqb (transferLength op) 0) (transferLength op), refl)
+falls-at operation.IO op lent room h fits = io-falls (ioOf (op .kind)) op lent (fits .enough)
+falls-at operation.CommandStatus op lent room h fits = (refl, refl)
+falls-at operation.Finish op lent room h fits = absurd (h refl)
 
-  -- sectors take four, and none three: "Length 0 is legal"
-  pub read-takes : (first count : ℕ) → 0 < count → left (fresh kind.Read (readLbaCommand tag first count)) ≡ 4
-  read-takes first count some = fresh-with kind.Read (readLbaCommand tag first count) (λ e. omega arith)
+pub left-falls : (op : UsbOperation) (lent room : ℕ) → (op .next ≡ operation.Finish → ⊥) → Fits op lent room
+    → (suc (left (usbStep op lent room .next)) ≡ left op) × (transferLength (usbStep op lent room .next) ≡ transferLength op)
+unfolding Falls
+left-falls op lent room h fits = falls-at (op .next) op lent room h fits
 
-  pub write-takes : (first count : ℕ) → 0 < count → left (fresh kind.Write (writeLbaCommand tag first count)) ≡ 4
-  write-takes first count some = fresh-with kind.Write (writeLbaCommand tag first count) (λ e. omega arith)
+-- no giving changes it
+pub left-kept : (op : UsbOperation) (bytes : List ℕ) (lent : ℕ) → left (usbGive op bytes lent .next) ≡ left op
+left-kept op bytes lent =
+    let same = give-keeps op bytes lent in
+    ap₂ (λ (here : Operation) (c : CommandBlock). leftAt here (c .«transfer_length»)) (same .next) (same .command)
 
-  pub read-none-takes : (first : ℕ) → left (fresh kind.Read (readLbaCommand tag first 0)) ≡ 3
-  unfolding leftAt
-  read-none-takes first = refl
+-- one is left at the finish alone
+three-or-four : (none : Bool) → _≡_ {A = ℕ} (pick none 3 4) 1 → ⊥
+three-or-four true e = omega arith
+three-or-four false e = omega arith
 
-  pub write-none-takes : (first : ℕ) → left (fresh kind.Write (writeLbaCommand tag first 0)) ≡ 3
-  unfolding leftAt
-  write-none-takes first = refl
+pub one-left : (here : Operation) (l : ℕ) → leftAt here l ≡ 1 → here ≡ operation.Finish
+unfolding leftAt
+one-left operation.CommandBlock l e = absurd (three-or-four (eqb l 0) e)
+one-left operation.IO l e = absurd (omega arith)
+one-left operation.CommandStatus l e = absurd (omega arith)
+one-left operation.Finish l e = refl
+
+finish-one : (here : Operation) (l : ℕ) → here ≡ operation.Finish → leftAt here l ≡ 1
+unfolding leftAt
+finish-one here l e = rw e
+
+-- a step, and then any givings, refused or not
+pub record Gift : Type 0 where
+  pub bytes : List ℕ
+  pub lent : ℕ
+
+pub record Turn : Type 0 where
+  pub lent : ℕ
+  pub room : ℕ
+  pub gifts : List Gift
+
+unfoldable pub gifted : List Gift → UsbOperation → UsbOperation
+gifted [] op = op
+gifted (g ∷ gs) op = gifted gs (usbGive op (g .bytes) (g .lent) .next)
+
+unfoldable pub played : List Turn → UsbOperation → UsbOperation
+played [] op = op
+played (t ∷ ts) op = played ts (gifted (t .gifts) (usbStep op (t .lent) (t .room) .next))
+
+-- no turn lends too little for a transfer of that length
+pub AllFit : ℕ → List Turn → Type 0
+AllFit l [] = Unit
+AllFit l (t ∷ ts) = (31 ≤ t .room) × (l ≤ t .lent) × AllFit l ts
+
+gifted-left : (gs : List Gift) (op : UsbOperation) → (left (gifted gs op) ≡ left op) × (transferLength (gifted gs op) ≡ transferLength op)
+unfolding gifted
+gifted-left [] op = (refl, refl)
+gifted-left (g ∷ gs) op =
+    let after = usbGive op (g .bytes) (g .lent) .next in
+    let rest = gifted-left gs after in
+    let same : transferLength after ≡ transferLength op = ap (λ (c : CommandBlock). c .«transfer_length») (give-keeps op (g .bytes) (g .lent) .command) in
+    (rest .0 ∙ left-kept op (g .bytes) (g .lent), rest .1 ∙ same)
+
+-- each turn takes one of the steps that are left
+pub rounds : (turns : List Turn) (op : UsbOperation) → AllFit (transferLength op) turns → length turns < left op
+    → left (played turns op) + length turns ≡ left op
+unfolding played AllFit
+rounds [] op fit few = add-zero (left op)
+rounds (t ∷ ts) op fit few =
+    let going : op .next ≡ operation.Finish → ⊥ = λ e. omega (arith, finish-one (op .next) (transferLength op) e) in
+    let stepped = usbStep op (t .lent) (t .room) .next in
+    let falls = left-falls op (t .lent) (t .room) going (record { output = fit .0; enough = fit .1 }) in
+    let gave = gifted-left (t .gifts) stepped in
+    let after = gifted (t .gifts) stepped in
+    let same : transferLength after ≡ transferLength op = gave .1 ∙ falls .1 in
+    let fits : AllFit (transferLength after) ts = rw same (fit .2) in
+    let fewer : length ts < left after = omega (arith, gave .0, falls .0) in
+    omega (arith, rounds ts after fits fewer, gave .0, falls .0)
+
+-- a fresh operation stands at its finish before the last of its 3 or 4 steps and not sooner, whatever it is given
+pub finish-comes : (kind : Kind) (command : CommandBlock) (turns : List Turn) → AllFit (command .«transfer_length») turns
+    → suc (length turns) ≡ left (fresh kind command) → played turns (fresh kind command) .next ≡ operation.Finish
+finish-comes kind command turns fit e =
+    let op = fresh kind command in
+    let few : length turns < left op = omega arith in
+    one-left (played turns op .next) (transferLength (played turns op)) (omega (arith, rounds turns op fit few))
+
+pub not-sooner : (kind : Kind) (command : CommandBlock) (turns : List Turn) → AllFit (command .«transfer_length») turns
+    → suc (length turns) < left (fresh kind command) → played turns (fresh kind command) .next ≡ operation.Finish → ⊥
+not-sooner kind command turns fit h e =
+    let op = fresh kind command in
+    let few : length turns < left op = omega arith in
+    let one = finish-one (played turns op .next) (transferLength (played turns op)) e in
+    omega (arith, rounds turns op fit few, one)

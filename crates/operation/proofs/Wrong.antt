@@ -1,125 +1,141 @@
 -- Programs that the contracts rule out, each at a named input: no proof of any kind can exist for them.
-use Prim.Native.Nat.{ℕ}
+use Prim.Native.Nat.{ℕ, _≤_}
 use mathlib.Core.Path.{_≡_, refl, ap, sym, _∙_}
-use mathlib.Core.List.{List}
+use mathlib.Core.List.{List, [], _∷_}
 use native.Mathlib.Omega.{arith}
-use Rattle.wire.specs.Told.{Told, given, refused}
-use Rattle.wire.specs.Rules.{unless}
-use Rattle.codes.specs.declared.ResetOpcode.{ResetOpcode}
-use Rattle.codes.specs.declared.StorageIndex.{StorageIndex}
-use Rattle.protocol.specs.Commands.{chipInfoCommand, flashIdCommand, flashInfoCommand, capabilityCommand, storageCommand, eraseLbaCommand, eraseForceCommand, resetCommand, switchCommand, readLbaCommand, writeLbaCommand}
-use Rattle.reply.specs.Sectors.{sectorTold, sectorsIn}
-use Rattle.reply.specs.declared.size.SectorCount.{SectorCount}
-use Rattle.finish.specs.declared.Kind.{Kind}
-use Rattle.finish.specs.declared.Kind.the-variants as kind
-use Rattle.steps.specs.declared.UsbOperation.{UsbOperation}
-use Rattle.steps.specs.Record.{fresh}
-use Rattle.operation.specs.declared.UsbStart.{UsbStart}
-use Rattle.operation.specs.Start.{sectorsOr0, StartMeets}
+use lib.Dec.{lit<, lit≤}
+use lib.ListN.{getD, replicate}
+use Rattle.promise.specs.Told.{given, refused, number}
+use Rattle.promise.specs.Bytes.{lowFirst, highFirst, front}
+use Rattle.protocol_codes.specs.declared.CommandCode.the-variants.{ReadLBA}
+use Rattle.protocol.specs.declared.CommandBlock.{CommandBlock}
+use Rattle.protocol.specs.Commands.{replyCommand, chipInfoCommand, eraseLbaCommand}
+use Rattle.protocol.specs.CommandBytes.{commandBytes}
+use Rattle.operation_finish.specs.declared.Kind.{Kind}
+use Rattle.operation_finish.specs.declared.Kind.the-variants as kind
+use Rattle.operation_finish.specs.declared.Beside.{Beside}
+use Rattle.operation.specs.declared.steps.Operation.the-variants as operation
+use Rattle.operation.specs.declared.steps.Asked.the-variants as asked
+use Rattle.operation.specs.declared.steps.UsbOperation.{UsbOperation}
+use Rattle.operation.specs.declared.steps.UsbStep.the-variants as step
+use Rattle.operation.specs.declared.steps.UsbStepped.{UsbStepped}
+use Rattle.operation.specs.declared.steps.Giving.the-variants as giving
+use Rattle.operation.specs.declared.steps.UsbGiven.{UsbGiven}
+use Rattle.operation.specs.Record.{fresh, afterCommand, turned, withStatus}
+use Rattle.operation.specs.Step.{writesCommand, Step, stepOf, usbStep, stepTold, StepMeets}
+use Rattle.operation.specs.Give.{Give, nothingAsked, asksFor, owed, received, usbGive, givingTold, GiveMeets}
+use Rattle.operation.proofs.Cases.{command-short, command-out, give-taken}
 
--- the nine starts that are never refused
-pub data Start : Type 0 where
-  chipInfo : Start
-  flashId : Start
-  flashInfo : Start
-  capability : Start
-  storage : Start
-  eraseLba : ℕ → ℕ → Start
-  eraseForce : ℕ → ℕ → Start
-  resetDevice : ResetOpcode → Start
-  switchStorage : StorageIndex → Start
+-- a start that leaves bytes of an earlier command
+pub bytes-left-over : (k : Kind) (c : CommandBlock) (r : UsbOperation) → r ≡ fresh k c → r .«command_bytes» ≡ replicate 13 1 → ⊥
+bytes-left-over k c r e f =
+    let z : _≡_ {A = ℕ} 0 1 = ap (λ (l : List ℕ). getD l 0 0) (sym (ap (λ (o : UsbOperation). o .«command_bytes») e) ∙ f) in omega arith
 
--- what the contract of each says of its answer
-abbrev pub started : Start → ℕ → UsbOperation
-started chipInfo tag = fresh kind.ChipInfo (chipInfoCommand tag)
-started flashId tag = fresh kind.FlashId (flashIdCommand tag)
-started flashInfo tag = fresh kind.FlashInfo (flashInfoCommand tag)
-started capability tag = fresh kind.Capability (capabilityCommand tag)
-started storage tag = fresh kind.Storage (storageCommand tag)
-started (eraseLba first count) tag = fresh kind.Nothing (eraseLbaCommand tag first count)
-started (eraseForce first count) tag = fresh kind.Nothing (eraseForceCommand tag first count)
-started (resetDevice opcode) tag = fresh kind.Nothing (resetCommand tag opcode)
-started (switchStorage index) tag = fresh kind.Nothing (switchCommand tag index)
+-- a start at the data
+pub starts-at-the-data : (k : Kind) (c : CommandBlock) (r : UsbOperation) → r ≡ fresh k c → r .next ≡ operation.IO → ⊥
+starts-at-the-data k c r e f =
+    let same : operation.CommandBlock ≡ operation.IO = sym (ap (λ (o : UsbOperation). o .next) e) ∙ f in
+    let z : _≡_ {A = ℕ} 0 1 = cc in omega arith
 
-abbrev tagOf : UsbOperation → ℕ
-tagOf o = o .command .tag
+-- one with a reply, one without data
+abbrev asking : UsbOperation
+asking = fresh kind.ChipInfo (chipInfoCommand 7)
 
-tags-apart : (r a b : UsbOperation) → r ≡ a → r ≡ b → tagOf a ≡ 1 → tagOf b ≡ 2 → ⊥
-tags-apart r a b e f one two = let same : tagOf a ≡ tagOf b = ap tagOf (sym e ∙ f) in omega arith
+abbrev erasing : UsbOperation
+erasing = fresh kind.Nothing (eraseLbaCommand 7 0 1)
 
--- a start with one tag for all
-pub fixed-tag : (s : Start) (r : UsbOperation) → r ≡ started s 1 → r ≡ started s 2 → ⊥
-fixed-tag chipInfo r e f = tags-apart r _ _ e f refl refl
-fixed-tag flashId r e f = tags-apart r _ _ e f refl refl
-fixed-tag flashInfo r e f = tags-apart r _ _ e f refl refl
-fixed-tag capability r e f = tags-apart r _ _ e f refl refl
-fixed-tag storage r e f = tags-apart r _ _ e f refl refl
-fixed-tag (eraseLba first count) r e f = tags-apart r _ _ e f refl refl
-fixed-tag (eraseForce first count) r e f = tags-apart r _ _ e f refl refl
-fixed-tag (resetDevice opcode) r e f = tags-apart r _ _ e f refl refl
-fixed-tag (switchStorage index) r e f = tags-apart r _ _ e f refl refl
+module _ (r : UsbStepped) (after : List ℕ) where
+  -- a step that leaves bytes 24 to 30 as they were
+  pub tail-left : StepMeets r (replicate 31 1) after (usbStep asking 0 31) → getD after 30 0 ≡ 1 → ⊥
+  unfolding stepOf commandBytes highFirst lowFirst
+  tail-left meets e =
+      let left : getD after 30 0 ≡ 0 = ap (λ (l : List ℕ). getD l 30 0) (meets .leaves ∙ ap (λ (s : Step). front (s .sent) (replicate 31 1)) (command-out asking 31 (lit≤ tt))) in
+      omega arith
 
--- the kind of another start
-abbrev pub otherKind : Start → Kind
-otherKind chipInfo = kind.FlashId
-otherKind flashId = kind.FlashInfo
-otherKind flashInfo = kind.ChipInfo
-otherKind capability = kind.Storage
-otherKind storage = kind.Capability
-otherKind (eraseLba first count) = kind.Read
-otherKind (eraseForce first count) = kind.Write
-otherKind (resetDevice opcode) = kind.Storage
-otherKind (switchStorage index) = kind.ChipInfo
-
-abbrev place : Kind → ℕ
-place kind.ChipInfo = 0
-place kind.FlashId = 1
-place kind.FlashInfo = 2
-place kind.Capability = 3
-place kind.Nothing = 4
-place kind.Storage = 5
-place kind.Read = 6
-place kind.Write = 7
-
-places-apart : (r a : UsbOperation) (k : Kind) → r ≡ a → r .kind ≡ k → place (a .kind) ≡ place k
-places-apart r a k e f = ap place (sym (ap (λ (o : UsbOperation). o .kind) e) ∙ f)
-
--- a start of another kind
-pub other-kind : (s : Start) (tag : ℕ) (r : UsbOperation) → r ≡ started s tag → r .kind ≡ otherKind s → ⊥
-other-kind chipInfo tag r e f = let z : _≡_ {A = ℕ} 0 1 = places-apart r _ _ e f in omega arith
-other-kind flashId tag r e f = let z : _≡_ {A = ℕ} 1 2 = places-apart r _ _ e f in omega arith
-other-kind flashInfo tag r e f = let z : _≡_ {A = ℕ} 2 0 = places-apart r _ _ e f in omega arith
-other-kind capability tag r e f = let z : _≡_ {A = ℕ} 3 5 = places-apart r _ _ e f in omega arith
-other-kind storage tag r e f = let z : _≡_ {A = ℕ} 5 3 = places-apart r _ _ e f in omega arith
-other-kind (eraseLba first count) tag r e f = let z : _≡_ {A = ℕ} 4 6 = places-apart r _ _ e f in omega arith
-other-kind (eraseForce first count) tag r e f = let z : _≡_ {A = ℕ} 4 7 = places-apart r _ _ e f in omega arith
-other-kind (resetDevice opcode) tag r e f = let z : _≡_ {A = ℕ} 4 5 = places-apart r _ _ e f in omega arith
-other-kind (switchStorage index) tag r e f = let z : _≡_ {A = ℕ} 4 0 = places-apart r _ _ e f in omega arith
-
-module _ (r : UsbStart) (first size : ℕ) where
-  -- a sector operation with one tag for all
-  pub fixed-tag-read : StartMeets r kind.Read (readLbaCommand 1 first) size → StartMeets r kind.Read (readLbaCommand 2 first) size → ⊥
-  fixed-tag-read one two = tags-apart (r .operation) _ _ (one .operation) (two .operation) refl refl
-
-  pub fixed-tag-write : StartMeets r kind.Write (writeLbaCommand 1 first) size → StartMeets r kind.Write (writeLbaCommand 2 first) size → ⊥
-  fixed-tag-write one two = tags-apart (r .operation) _ _ (one .operation) (two .operation) refl refl
-
-  -- a read started for a write, and a write for a read
-  pub write-for-read : (tag : ℕ) → StartMeets r kind.Read (readLbaCommand tag first) size → r .operation .kind ≡ kind.Write → ⊥
-  write-for-read tag meets f = let z : _≡_ {A = ℕ} 6 7 = places-apart (r .operation) _ _ (meets .operation) f in omega arith
-
-  pub read-for-write : (tag : ℕ) → StartMeets r kind.Write (writeLbaCommand tag first) size → r .operation .kind ≡ kind.Read → ⊥
-  read-for-write tag meets f = let z : _≡_ {A = ℕ} 7 6 = places-apart (r .operation) _ _ (meets .operation) f in omega arith
-
-module _ (r : UsbStart) (tag first : ℕ) where
-  -- a sector beside the refusal of a byte
-  pub sector-beside-refusal : StartMeets r kind.Read (readLbaCommand tag first) 1 → r .operation .command .«cd_length» ≡ 1 → ⊥
-  unfolding sectorsOr0 sectorsIn unless
-  sector-beside-refusal meets f = let z : _≡_ {A = ℕ} 0 1 = sym (ap (λ (o : UsbOperation). o .command .«cd_length») (meets .operation)) ∙ f in omega arith
-
-  -- a start that refuses whole sectors
-  pub always-refusing : (n : ℕ) (values : List ℕ) → StartMeets r kind.Write (writeLbaCommand tag first) 512 → sectorTold (r .answer) ≡ refused n values → ⊥
-  unfolding sectorsIn unless
-  always-refusing n values meets f =
-      let told : _≡_ {A = Told SectorCount} (refused n values) (given (record { 0 = 1 })) = sym f ∙ meets .tells in
+  -- a step that does nothing
+  pub doing-nothing : StepMeets r (replicate 31 1) after (usbStep asking 0 31) → r .next ≡ asking → ⊥
+  unfolding stepOf afterCommand
+  doing-nothing meets e =
+      let same : operation.CommandBlock ≡ operation.IO =
+      ap (λ (o : UsbOperation). o .next) (sym e ∙ meets .next ∙ ap (λ (s : Step). s .next) (command-out asking 31 (lit≤ tt))) in
       let z : _≡_ {A = ℕ} 0 1 = cc in omega arith
+
+  -- a step that always refuses, whatever it tells
+  pub always-refusing : (n : ℕ) (values : List ℕ) → StepMeets r (replicate 31 1) after (usbStep asking 0 31) → stepTold (r .step) (r .beside) ≡ refused n values → ⊥
+  unfolding stepOf
+  always-refusing n values meets e =
+      let told : refused n values ≡ given writesCommand = sym e ∙ meets .tells ∙ ap (λ (s : Step). s .told) (command-out asking 31 (lit≤ tt)) in
+      let z : _≡_ {A = ℕ} 0 1 = cc in omega arith
+
+  -- the status left out where there is no data
+  pub status-skipped : StepMeets r (replicate 31 1) after (usbStep erasing 0 31) → r .next .next ≡ operation.Finish → ⊥
+  unfolding stepOf afterCommand
+  status-skipped meets e =
+      let same : operation.Finish ≡ operation.CommandStatus =
+      sym e ∙ ap (λ (o : UsbOperation). o .next) (meets .next ∙ ap (λ (s : Step). s .next) (command-out erasing 31 (lit≤ tt))) in
+      let z : _≡_ {A = ℕ} 0 1 = cc in omega arith
+
+  -- a refused step that goes on all the same
+  pub refusal-changes-record : StepMeets r (replicate 30 1) after (usbStep asking 0 30) → r .next .next ≡ operation.IO → ⊥
+  unfolding stepOf
+  refusal-changes-record meets e =
+      let same : operation.IO ≡ operation.CommandBlock =
+      sym e ∙ ap (λ (o : UsbOperation). o .next) (meets .next ∙ ap (λ (s : Step). s .next) (command-short asking 30 (lit< tt))) in
+      let z : _≡_ {A = ℕ} 0 1 = cc in omega arith
+
+-- one that has asked for its status, over other bytes, and one that has asked for a byte of the caller's data
+abbrev awaiting : UsbOperation
+awaiting = turned (withStatus asking (replicate 13 5)) operation.Finish asked.Status
+
+abbrev reading : UsbOperation
+reading = turned (fresh kind.Read (replyCommand 7 1 ReadLBA)) operation.CommandStatus asked.Sectors
+
+status-taken : usbGive awaiting (1 ∷ []) 0 ≡ received asked.Status awaiting (1 ∷ [])
+unfolding nothingAsked asksFor owed
+status-taken = give-taken asked.Status awaiting (1 ∷ []) 0 refl (lit≤ tt) (lit≤ tt)
+
+byte-taken : usbGive reading (1 ∷ []) 1 ≡ received asked.Sectors reading (1 ∷ [])
+unfolding nothingAsked asksFor owed
+byte-taken = give-taken asked.Sectors reading (1 ∷ []) 1 refl (lit≤ tt) (lit≤ tt)
+
+module _ (r : UsbGiven) (after : List ℕ) where
+  -- a giving after which the same bytes are still asked for
+  pub giving-twice : GiveMeets r [] after (usbGive awaiting (1 ∷ []) 0) → r .next .asked ≡ asked.Status → ⊥
+  unfolding received
+  giving-twice meets e =
+      let same : asked.Status ≡ asked.Nothing = sym e ∙ ap (λ (o : UsbOperation). o .asked) (meets .next ∙ ap (λ (g : Give). g .next) status-taken) in
+      let z : _≡_ {A = ℕ} 0 1 = cc in omega arith
+
+  -- a giving that clears what it has no bytes for
+  pub rest-cleared : GiveMeets r [] after (usbGive awaiting (1 ∷ []) 0) → r .next .«command_bytes» ≡ 1 ∷ replicate 12 0 → ⊥
+  unfolding received
+  rest-cleared meets e =
+      let z : _≡_ {A = ℕ} 0 5 =
+      ap (λ (l : List ℕ). getD l 1 0) (sym e ∙ ap (λ (o : UsbOperation). o .«command_bytes») (meets .next ∙ ap (λ (g : Give). g .next) status-taken)) in
+      omega arith
+
+  -- a giving that leaves the caller's data alone
+  pub data-untouched : GiveMeets r (0 ∷ []) after (usbGive reading (1 ∷ []) 1) → after ≡ 0 ∷ [] → ⊥
+  unfolding received
+  data-untouched meets e =
+      let z : _≡_ {A = ℕ} 0 1 = ap (λ (l : List ℕ). getD l 0 0) (sym e ∙ meets .leaves ∙ ap (λ (g : Give). front (g .put) (0 ∷ [])) byte-taken) in omega arith
+
+-- one number for every refusal of a step
+pub one-number-for-all : (n : ℕ) (b : Beside) → n ≡ number (stepTold step.OutputTooShort b) → n ≡ number (stepTold step.DataDiffers b) → ⊥
+unfolding number stepTold
+one-number-for-all n b e f = omega arith
+
+-- a read that is asked for told as a refusal
+pub asked-a-refusal : (n size : ℕ) (b : Beside) → n ≡ number (stepTold (step.ReadStatus size) b) → 1 ≤ n → ⊥
+unfolding number stepTold
+asked-a-refusal n size b e f = omega arith
+
+-- 22 told as 21
+pub not-asked-too-many : (n : ℕ) → n ≡ number (givingTold giving.NotAsked) → n ≡ 21 → ⊥
+unfolding number givingTold
+not-asked-too-many n e f = omega arith
+
+-- bytes that are taken told as a refusal
+pub taken-a-refusal : (n : ℕ) → n ≡ number (givingTold giving.Taken) → 1 ≤ n → ⊥
+unfolding number givingTold
+taken-a-refusal n e f = omega arith

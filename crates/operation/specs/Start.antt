@@ -1,14 +1,13 @@
 -- The start of a sector operation over data of any length.
--- Assumes nothing.
 use Prim.Native.Nat.{ℕ}
 use mathlib.Core.Path.{_≡_}
-use Rattle.wire.specs.Told.{Told, given, refused}
+use Rattle.promise.specs.Told.{Told, given, refused}
 use Rattle.protocol.specs.declared.CommandBlock.{CommandBlock}
-use Rattle.reply.specs.Sectors.{sectorTold, sectorsIn}
-use Rattle.reply.specs.declared.size.SectorCount.{SectorCount}
-use Rattle.finish.specs.declared.Kind.{Kind}
-use Rattle.operation.specs.declared.UsbStart.{UsbStart}
-use Rattle.steps.specs.Record.{fresh}
+use Rattle.protocol_reply.specs.Sectors.{sectorTold, sectorsIn}
+use Rattle.protocol_reply.specs.declared.size.SectorCount.{SectorCount}
+use Rattle.operation_finish.specs.declared.Kind.{Kind}
+use Rattle.operation.specs.declared.starts.UsbStart.{UsbStart}
+use Rattle.operation.specs.Record.{fresh}
 
 -- beside a refusal stands the operation of length 0
 unfoldable pub sectorsOr0 : Told SectorCount → ℕ

@@ -1,12 +1,11 @@
 -- Document 01's P1, computed.
--- Assumes nothing.
 use mathlib.Core.Path.{_≡_, refl}
 use mathlib.Core.List.{_∷_}
 use lib.ListN.{replicate}
-use Rattle.wire.specs.Told.{given}
-use Rattle.wire.specs.Rules.{unless}
-use Rattle.wire.specs.Bytes.{lowFirst, highFirst, front}
-use Rattle.block.specs.Writing.{Writing, writing}
+use Rattle.promise.specs.Told.{given}
+use Rattle.promise.specs.Rules.{unless}
+use Rattle.promise.specs.Bytes.{lowFirst, highFirst, front}
+use Rattle.protocol_bytes.specs.Writing.{Writing, writing}
 use Rattle.protocol.specs.Commands.{readLbaCommand}
 use Rattle.protocol.specs.CommandBytes.{commandBytes, writeCommand}
 

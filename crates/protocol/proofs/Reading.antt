@@ -1,19 +1,18 @@
 -- Reading a command, by cases of the rule.
--- Assumes nothing.
 use Prim.Native.Nat.{ℕ, _<_, _≤_}
 use mathlib.Core.Path.{_≡_, refl}
 use mathlib.Core.Bool.{true, false}
 use mathlib.Core.List.{List, [], _∷_}
 use borrow.Author.Tests.{lt-ltb, le-ltb}
 use lib.ListN.{length, getD, take}
-use Rattle.wire.specs.Told.{Told, given, refused, andThen}
-use Rattle.wire.specs.Rules.{unless}
-use Rattle.codes.specs.Numbers.{directionNumber, directions, codeNumber, commandCodes}
-use Rattle.codes.specs.Reading.{directionOf, codeOf}
-use Rattle.codes.specs.declared.Direction.{Direction}
-use Rattle.codes.specs.declared.CommandCode.{CommandCode}
-use Rattle.codes.proofs.Reading.{known-refused}
-use Rattle.block.specs.Signature.{usbc, same, signatureIn}
+use Rattle.promise.specs.Told.{Told, given, refused, andThen}
+use Rattle.promise.specs.Rules.{unless}
+use Rattle.protocol_codes.specs.Numbers.{directionNumber, directions, codeNumber, commandCodes}
+use Rattle.protocol_codes.specs.Reading.{directionOf, codeOf}
+use Rattle.protocol_codes.specs.declared.Direction.{Direction}
+use Rattle.protocol_codes.specs.declared.CommandCode.{CommandCode}
+use Rattle.protocol_codes.proofs.Reading.{known-refused}
+use Rattle.protocol_bytes.specs.Signature.{usbc, same, signatureIn}
 use Rattle.protocol.specs.declared.CommandBlock.{CommandBlock}
 use Rattle.protocol.specs.declared.CommandParse.{CommandParse}
 use Rattle.protocol.specs.declared.CommandAnswer.the-variants.{Block, Refused}

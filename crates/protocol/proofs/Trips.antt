@@ -1,5 +1,4 @@
 -- A command reads back as what was written, with anything behind it, and what is read is written back as it stood, byte 21 being zero.
--- Assumes nothing.
 use Prim.Native.Nat.{ℕ, _+_, _<_, _≤_, _^_}
 use mathlib.Core.Path.{_≡_, refl, ap, ap₂, sym, _∙_}
 use mathlib.Core.Bool.{not}
@@ -8,21 +7,21 @@ use native.Mathlib.Omega.{arith}
 use borrow.Author.Tests.{ltb-false, not-false}
 use lib.Dec.{ltb}
 use lib.ListN.{length, getD, take, set, length-append}
-use Rattle.wire.specs.Told.{Told, given, andThen}
-use Rattle.wire.specs.Rules.{rule, unless}
-use Rattle.wire.specs.Bytes.{lowFirst, highFirst, fromLow, fromHigh, field, AreBytes}
-use Rattle.wire.proofs.Order.{from-low-first, from-high-first}
-use Rattle.codes.specs.Numbers.{directionNumber, directions, codeNumber, commandCodes}
-use Rattle.codes.specs.Reading.{directionOf, codeOf}
-use Rattle.codes.specs.declared.Direction.{Direction}
-use Rattle.codes.specs.declared.CommandCode.{CommandCode}
-use Rattle.codes.proofs.Reading.{known-given}
-use Rattle.codes.proofs.Back.{direction-back, code-back}
-use Rattle.block.specs.Signature.{usbc, same}
-use Rattle.block.proofs.Same.{same-equal}
-use Rattle.block.proofs.Short.{elements, field-elements}
-use Rattle.block.proofs.Rewritten.{low-rewritten, high-rewritten}
-use Rattle.block.proofs.Given.{rule-met, first-given}
+use Rattle.promise.specs.Told.{Told, given, andThen}
+use Rattle.promise.specs.Rules.{rule, unless}
+use Rattle.promise.specs.Bytes.{lowFirst, highFirst, fromLow, fromHigh, field, AreBytes}
+use Rattle.promise.proofs.Order.{from-low-first, from-high-first}
+use Rattle.protocol_codes.specs.Numbers.{directionNumber, directions, codeNumber, commandCodes}
+use Rattle.protocol_codes.specs.Reading.{directionOf, codeOf}
+use Rattle.protocol_codes.specs.declared.Direction.{Direction}
+use Rattle.protocol_codes.specs.declared.CommandCode.{CommandCode}
+use Rattle.protocol_codes.proofs.Reading.{known-given}
+use Rattle.protocol_codes.proofs.Back.{direction-back, code-back}
+use Rattle.protocol_bytes.specs.Signature.{usbc, same}
+use Rattle.protocol_bytes.proofs.Same.{same-equal}
+use Rattle.protocol_bytes.proofs.Short.{elements, field-elements}
+use Rattle.protocol_bytes.proofs.Rewritten.{low-rewritten, high-rewritten}
+use Rattle.protocol_bytes.proofs.Given.{rule-met, first-given}
 use Rattle.protocol.specs.declared.CommandBlock.{CommandBlock}
 use Rattle.protocol.specs.CommandBytes.{commandBytes, blockOf, readCommand}
 pub use Rattle.protocol.specs.CommandBytes.{BlockFits}

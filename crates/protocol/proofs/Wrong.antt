@@ -1,25 +1,24 @@
 -- Programs that the contracts rule out: no proof at all can exist for them.
--- Assumes nothing.
 use Prim.Native.Nat.{ℕ, _<_}
 use mathlib.Core.Path.{_≡_, ap, sym, _∙_}
 use mathlib.Core.List.{List, [], _∷_, _++_}
 use native.Mathlib.Omega.{arith}
 use lib.Dec.{lit<, lit≤}
 use lib.ListN.{getD, length, replicate, take, drop}
-use Rattle.wire.specs.Told.{Told, given, refused, number}
-use Rattle.wire.specs.Rules.{unless}
-use Rattle.wire.specs.Bytes.{lowFirst, highFirst}
-use Rattle.codes.specs.Numbers.{codeNumber}
-use Rattle.codes.specs.declared.Direction.{Direction}
-use Rattle.codes.specs.declared.Direction.the-variants.{In, Out}
-use Rattle.codes.specs.declared.CommandCode.{CommandCode}
-use Rattle.codes.specs.declared.CommandCode.the-variants.{TestBadBlock, ReadFlashId, ReadFlashInfo, ReadCapability, ReadChipInfo, GetStorageMedia, EraseLBA, EraseForce, ReadLBA, WriteLBA, DeviceReset, SwitchStorage}
-use Rattle.codes.specs.declared.ResetOpcode.{ResetOpcode}
-use Rattle.codes.specs.declared.StorageIndex.{StorageIndex}
-use Rattle.block.specs.Signature.{noSignature}
-use Rattle.block.specs.declared.output.Written.{Written}
-use Rattle.block.specs.declared.output.Written.the-variants.{Bytes, TooShort}
-use Rattle.block.specs.Writing.{writing, writtenTold, WriteMeets}
+use Rattle.promise.specs.Told.{Told, given, refused, number}
+use Rattle.promise.specs.Rules.{unless}
+use Rattle.promise.specs.Bytes.{lowFirst, highFirst}
+use Rattle.protocol_codes.specs.Numbers.{codeNumber}
+use Rattle.protocol_codes.specs.declared.Direction.{Direction}
+use Rattle.protocol_codes.specs.declared.Direction.the-variants.{In, Out}
+use Rattle.protocol_codes.specs.declared.CommandCode.{CommandCode}
+use Rattle.protocol_codes.specs.declared.CommandCode.the-variants.{TestBadBlock, ReadFlashId, ReadFlashInfo, ReadCapability, ReadChipInfo, GetStorageMedia, EraseLBA, EraseForce, ReadLBA, WriteLBA, DeviceReset, SwitchStorage}
+use Rattle.protocol_codes.specs.declared.ResetOpcode.{ResetOpcode}
+use Rattle.protocol_codes.specs.declared.StorageIndex.{StorageIndex}
+use Rattle.protocol_bytes.specs.Signature.{noSignature}
+use Rattle.protocol_bytes.specs.declared.output.Written.{Written}
+use Rattle.protocol_bytes.specs.declared.output.Written.the-variants.{Bytes, TooShort}
+use Rattle.protocol_bytes.specs.Writing.{writing, writtenTold, WriteMeets}
 use Rattle.protocol.specs.declared.CommandBlock.{CommandBlock}
 use Rattle.protocol.specs.declared.CommandParse.{CommandParse}
 use Rattle.protocol.specs.declared.CommandBlockParseError.the-variants.{InvalidSignature, InvalidLength, UnknownFlags, UnknownCommandCode}

@@ -1,8 +1,7 @@
 -- What the private functions of the code give.
--- Assumes nothing.
 use Rattle.protocol.specs.declared.CommandAnswer.{CommandAnswer}
 use Rattle.protocol.specs.declared.CommandParse.{CommandParse}
-use Rattle.block.specs.Signature.{noSignature}
+use Rattle.protocol_bytes.specs.Signature.{noSignature}
 
 -- an answer with no signature to tell
 abbrev pub parsed : CommandAnswer → CommandParse

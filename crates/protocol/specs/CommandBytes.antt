@@ -1,20 +1,19 @@
 -- The command block as bytes, and bytes as a command block.
--- Assumes nothing.
 use Prim.Native.Nat.{ℕ, _<_, _^_}
 use mathlib.Core.Bool.{not}
 use mathlib.Core.List.{List, [], _∷_, _++_}
 use lib.Dec.{ltb}
 use lib.ListN.{length, getD, take}
-use Rattle.wire.specs.Told.{Told, given, andThen}
-use Rattle.wire.specs.Rules.{rule, unless}
-use Rattle.wire.specs.Bytes.{lowFirst, highFirst, fromLow, fromHigh, field}
-use Rattle.codes.specs.Numbers.{codeNumber, directionNumber}
-use Rattle.codes.specs.Reading.{codeOf, directionOf}
-use Rattle.codes.specs.declared.Direction.{Direction}
-use Rattle.codes.specs.declared.CommandCode.{CommandCode}
+use Rattle.promise.specs.Told.{Told, given, andThen}
+use Rattle.promise.specs.Rules.{rule, unless}
+use Rattle.promise.specs.Bytes.{lowFirst, highFirst, fromLow, fromHigh, field}
+use Rattle.protocol_codes.specs.Numbers.{codeNumber, directionNumber}
+use Rattle.protocol_codes.specs.Reading.{codeOf, directionOf}
+use Rattle.protocol_codes.specs.declared.Direction.{Direction}
+use Rattle.protocol_codes.specs.declared.CommandCode.{CommandCode}
 use Rattle.protocol.specs.declared.CommandBlock.{CommandBlock}
-use Rattle.block.specs.Signature.{usbc, same}
-use Rattle.block.specs.Writing.{Writing, writing}
+use Rattle.protocol_bytes.specs.Signature.{usbc, same}
+use Rattle.protocol_bytes.specs.Writing.{Writing, writing}
 
 -- Command, 31 bytes
 abbrev pub commandLength : ℕ

@@ -1,16 +1,15 @@
 -- Number and values for every answer of reading a command.
--- Assumes nothing.
 use Prim.Native.Nat.{ℕ}
 use mathlib.Core.Path.{_≡_}
 use mathlib.Core.List.{List, [], _∷_}
-use Rattle.wire.specs.Told.{Told, given, refused}
+use Rattle.promise.specs.Told.{Told, given, refused}
 use Rattle.protocol.specs.declared.CommandBlock.{CommandBlock}
 use Rattle.protocol.specs.declared.CommandBlockParseError.{CommandBlockParseError}
 use Rattle.protocol.specs.declared.CommandBlockParseError.the-variants.{InvalidSignature, UnknownCommandCode, UnknownFlags, InvalidLength}
 use Rattle.protocol.specs.declared.CommandAnswer.{CommandAnswer}
 use Rattle.protocol.specs.declared.CommandAnswer.the-variants.{Block, Refused}
 use Rattle.protocol.specs.declared.CommandParse.{CommandParse}
-use Rattle.block.specs.Signature.{signatureIn}
+use Rattle.protocol_bytes.specs.Signature.{signatureIn}
 
 unfoldable pub commandErrorNumber : CommandBlockParseError → ℕ
 commandErrorNumber (InvalidLength n) = 1

@@ -1,14 +1,13 @@
 -- What each of our operations asks of the device, with the tag passed in.
--- Assumes nothing.
 use Prim.Native.Nat.{ℕ, _*_}
-use Rattle.block.specs.Sector.{sectorSize}
-use Rattle.codes.specs.Numbers.{resetNumber, storageNumber}
-use Rattle.codes.specs.declared.Direction.{Direction}
-use Rattle.codes.specs.declared.Direction.the-variants.{In, Out}
-use Rattle.codes.specs.declared.CommandCode.{CommandCode}
-use Rattle.codes.specs.declared.CommandCode.the-variants.{ReadFlashId, ReadFlashInfo, ReadCapability, ReadChipInfo, GetStorageMedia, EraseLBA, EraseForce, ReadLBA, WriteLBA, DeviceReset, SwitchStorage}
-use Rattle.codes.specs.declared.ResetOpcode.{ResetOpcode}
-use Rattle.codes.specs.declared.StorageIndex.{StorageIndex}
+use Rattle.protocol_bytes.specs.Sector.{sectorSize}
+use Rattle.protocol_codes.specs.Numbers.{resetNumber, storageNumber}
+use Rattle.protocol_codes.specs.declared.Direction.{Direction}
+use Rattle.protocol_codes.specs.declared.Direction.the-variants.{In, Out}
+use Rattle.protocol_codes.specs.declared.CommandCode.{CommandCode}
+use Rattle.protocol_codes.specs.declared.CommandCode.the-variants.{ReadFlashId, ReadFlashInfo, ReadCapability, ReadChipInfo, GetStorageMedia, EraseLBA, EraseForce, ReadLBA, WriteLBA, DeviceReset, SwitchStorage}
+use Rattle.protocol_codes.specs.declared.ResetOpcode.{ResetOpcode}
+use Rattle.protocol_codes.specs.declared.StorageIndex.{StorageIndex}
 use Rattle.protocol.specs.declared.CommandBlock.{CommandBlock}
 
 -- a CDB of 6 bytes with an opcode alone, or of 10 over sectors

@@ -1,20 +1,20 @@
 // The command block: what our operations ask, written into 31 bytes and read back.
-use block::SECTOR_SIZE;
-use block::order::u16_from_be_bytes;
-use block::order::u16_to_be_bytes;
-use block::order::u32_from_be_bytes;
-use block::order::u32_from_le_bytes;
-use block::order::u32_to_be_bytes;
-use block::order::u32_to_le_bytes;
-use block::output::Written;
-use block::signature::starts_with;
+use protocol_bytes::SECTOR_SIZE;
+use protocol_bytes::order::u16_from_be_bytes;
+use protocol_bytes::order::u16_to_be_bytes;
+use protocol_bytes::order::u32_from_be_bytes;
+use protocol_bytes::order::u32_from_le_bytes;
+use protocol_bytes::order::u32_to_be_bytes;
+use protocol_bytes::order::u32_to_le_bytes;
+use protocol_bytes::output::Written;
+use protocol_bytes::signature::starts_with;
 use bytes;
-use codes::CodeRead;
-use codes::CommandCode;
-use codes::Direction;
-use codes::DirectionRead;
-use codes::ResetOpcode;
-use codes::StorageIndex;
+use protocol_codes::CodeRead;
+use protocol_codes::CommandCode;
+use protocol_codes::Direction;
+use protocol_codes::DirectionRead;
+use protocol_codes::ResetOpcode;
+use protocol_codes::StorageIndex;
 ghost use mathlib.Core.Path.{_≡_};
 ghost use mathlib.Core.List.{List};
 ghost use Prim.Native.Nat.{ℕ, _≤_};
@@ -23,8 +23,8 @@ ghost use Rattle.protocol.specs.Commands.{replyCommand, opcodeCommand, s
 ghost use Rattle.protocol.specs.CommandBytes.{commandBytes, blockOf, readCommand, writeCommand};
 ghost use Rattle.protocol.specs.CommandMeets.{CommandMeets, commandErrorNumber, commandTold};
 ghost use Rattle.protocol.specs.Code.{parsed};
-ghost use Rattle.wire.specs.Told.{number};
-ghost use Rattle.block.specs.Writing.{WriteMeets};
+ghost use Rattle.promise.specs.Told.{number};
+ghost use Rattle.protocol_bytes.specs.Writing.{WriteMeets};
 
 // Total size of a command block.
 pub const COMMAND_BLOCK_BYTES: usize = 31;

@@ -4,7 +4,7 @@ use crate::told::four;
 use crate::told::none;
 use crate::told::one;
 use protocol::CommandBlockParseError;
-use status::failure::UsbOperationError;
+use protocol_status::failure::UsbOperationError;
 
 pub fn command_error(error: CommandBlockParseError, signature: [u8; 4]) -> Told {
     let number = error.number() as u64;

@@ -4,12 +4,12 @@ use crate::told::Told;
 use crate::told::none;
 use crate::told::two;
 use crate::told::with_small;
-use codes::StorageIndex;
+use protocol_codes::StorageIndex;
 use replay_lines::buffer::copy;
-use reply::flags::Capability;
-use reply::info::ChipInfo;
-use reply::info::FlashId;
-use reply::info::FlashInfo;
+use protocol_reply::flags::Capability;
+use protocol_reply::info::ChipInfo;
+use protocol_reply::info::FlashId;
+use protocol_reply::info::FlashInfo;
 
 pub fn widened(bytes: &[u8]) -> [u8; 16] {
     let mut wide = [0u8; 16];

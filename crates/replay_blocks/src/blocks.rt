@@ -2,9 +2,9 @@
 use crate::commands::Built;
 use crate::commands::command;
 use crate::replies;
-use block::output::Written;
-use codes::Status;
-use codes::StatusRead;
+use protocol_bytes::output::Written;
+use protocol_codes::Status;
+use protocol_codes::StatusRead;
 use protocol::CommandAnswer;
 use protocol::CommandBlock;
 use protocol::CommandParse;
@@ -27,11 +27,11 @@ use replay_lines::names::CWR;
 use replay_lines::names::SMP;
 use replay_lines::names::SRD;
 use replay_lines::names::STO;
-use status::failure::UsbOperationError;
-use status::report::CommandStatus;
-use status::report::CommandStatusParseError;
-use status::report::StatusAnswer;
-use status::report::StatusParse;
+use protocol_status::failure::UsbOperationError;
+use protocol_status::report::CommandStatus;
+use protocol_status::report::CommandStatusParseError;
+use protocol_status::report::StatusAnswer;
+use protocol_status::report::StatusParse;
 
 fn fields(block: CommandBlock) -> Told {
     nine(

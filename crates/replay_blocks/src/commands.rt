@@ -1,6 +1,6 @@
 // The operations that a line names, with their arguments, as command blocks.
-use codes::ResetOpcode;
-use codes::ResetRead;
+use protocol_codes::ResetOpcode;
+use protocol_codes::ResetRead;
 use protocol::CommandBlock;
 use replay_answers::values::IndexRead;
 use replay_answers::values::index;

@@ -1,13 +1,13 @@
 // "Numbers": a number read as a direction, a code, a status, a reset opcode, a storage index.
-use codes::CodeRead;
-use codes::CommandCode;
-use codes::Direction;
-use codes::DirectionRead;
-use codes::ResetOpcode;
-use codes::ResetRead;
-use codes::Status;
-use codes::StatusRead;
-use codes::StorageIndex;
+use protocol_codes::CodeRead;
+use protocol_codes::CommandCode;
+use protocol_codes::Direction;
+use protocol_codes::DirectionRead;
+use protocol_codes::ResetOpcode;
+use protocol_codes::ResetRead;
+use protocol_codes::Status;
+use protocol_codes::StatusRead;
+use protocol_codes::StorageIndex;
 use replay_answers::told::Told;
 use replay_answers::told::one;
 use replay_answers::told::outside;

@@ -19,14 +19,14 @@ use replay_lines::names::CAP;
 use replay_lines::names::CHP;
 use replay_lines::names::FID;
 use replay_lines::names::FIN;
-use reply::flags::Capability;
-use reply::info::ChipInfo;
-use reply::info::FlashId;
-use reply::info::FlashInfo;
-use reply::media::StorageAnswer;
-use reply::media::storage_index;
-use reply::size::SectorAnswer;
-use reply::size::sector_count;
+use protocol_reply::flags::Capability;
+use protocol_reply::info::ChipInfo;
+use protocol_reply::info::FlashId;
+use protocol_reply::info::FlashInfo;
+use protocol_reply::media::StorageAnswer;
+use protocol_reply::media::storage_index;
+use protocol_reply::size::SectorAnswer;
+use protocol_reply::size::sector_count;
 
 fn flash_id(bytes: &[u8]) -> FlashId {
     let mut id = [0u8; 5];

@@ -1,8 +1,8 @@
 // "The device": raw calls on the current device.
-use answer::error::MockAnswer;
-use answer::error::MockResult;
-use answer::error::MockTransportError;
-use areas::AreaFound;
+use mock_base::error::MockAnswer;
+use mock_base::error::MockResult;
+use mock_base::error::MockTransportError;
+use mock_areas::AreaFound;
 use mock::config::DEFAULT_SECTORS;
 use mock::config::MockDeviceConfig;
 use mock::device::MockState;
@@ -35,7 +35,7 @@ use replay_lines::names::BWR;
 use replay_lines::names::CTL;
 use replay_lines::names::DVC;
 use replay_lines::names::DVD;
-use transaction::session::LastReset;
+use mock_table::session::LastReset;
 
 // The current device: whether there is one, its record, and the lengths of its flash and store, which stand in buffers of their own.
 pub struct Device {

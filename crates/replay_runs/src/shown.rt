@@ -1,7 +1,7 @@
 // The sections of the device: its flash, its areas and its last reset.
-use areas::Area;
-use areas::AreaFound;
-use areas::Areas;
+use mock_areas::Area;
+use mock_areas::AreaFound;
+use mock_areas::Areas;
 use replay_answers::out::decimal;
 use replay_answers::out::section;
 use replay_answers::out::spaced_bytes;
@@ -12,7 +12,7 @@ use replay_device::devices::Device;
 use replay_device::devices::reset_told;
 use replay_lines::buffer::between;
 use replay_lines::line::after;
-use transaction::session::LastReset;
+use mock_table::session::LastReset;
 
 fn count_of(slots: [Area; 8]) -> u64 {
     let mut count = 0;

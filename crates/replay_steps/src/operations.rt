@@ -1,20 +1,20 @@
 // "Operations": the current operation, stepped by hand.
-use codes::ResetOpcode;
-use codes::ResetRead;
-use finish::Beside;
-use finish::FinishAnswer;
-use finish::UsbReply;
-use operation::UsbStart;
-use operation::capability;
-use operation::chip_info;
-use operation::erase_force;
-use operation::erase_lba;
-use operation::flash_id;
-use operation::flash_info;
-use operation::read_lba;
-use operation::reset_device;
-use operation::switch_storage;
-use operation::write_lba;
+use protocol_codes::ResetOpcode;
+use protocol_codes::ResetRead;
+use operation_finish::Beside;
+use operation_finish::FinishAnswer;
+use operation_finish::UsbReply;
+use operation::starts::UsbStart;
+use operation::starts::capability;
+use operation::starts::chip_info;
+use operation::starts::erase_force;
+use operation::starts::erase_lba;
+use operation::starts::flash_id;
+use operation::starts::flash_info;
+use operation::starts::read_lba;
+use operation::starts::reset_device;
+use operation::starts::switch_storage;
+use operation::starts::write_lba;
 use replay_answers::refusals::operation_error;
 use replay_answers::told::Answer;
 use replay_answers::told::Tail;
@@ -51,9 +51,9 @@ use replay_lines::names::STO;
 use replay_lines::names::STP;
 use replay_lines::names::SWI;
 use replay_lines::names::WRL;
-use reply::size::SectorAnswer;
-use steps::UsbOperation;
-use steps::UsbStep;
+use protocol_reply::size::SectorAnswer;
+use operation::steps::UsbOperation;
+use operation::steps::UsbStep;
 
 // The current operation: whether there is one, its record, and the length of the caller's data, which stands in a buffer of its own.
 pub struct Current {
@@ -93,7 +93,7 @@ fn simple(op: u64, tag: u32) -> Current {
         FID => begun(flash_id(tag)),
         FIN => begun(flash_info(tag)),
         CAP => begun(capability(tag)),
-        STO => begun(operation::storage(tag)),
+        STO => begun(operation::starts::storage(tag)),
         _ => no_operation(),
     }
 }

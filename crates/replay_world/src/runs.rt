@@ -1,11 +1,11 @@
 // "Runs": the current operation or the current upload, run against the current device with a budget of steps.
 use crate::world::World;
 use crate::world::stays;
-use finish::Beside;
-use loading::LoadAnswer;
-use loading::LoadRun;
-use loading::LoadStop;
-use loading::run_upload;
+use operation_finish::Beside;
+use run_upload::LoadAnswer;
+use run_upload::LoadRun;
+use run_upload::LoadStop;
+use run_upload::run_upload;
 use replay_answers::told::Answer;
 use replay_answers::told::Told;
 use replay_answers::told::none;
@@ -21,9 +21,9 @@ use replay_lines::names::RUN;
 use replay_steps::operations::current_of;
 use replay_steps::operations::finished;
 use replay_steps::uploads::upload_of;
-use runner::RunAnswer;
-use runner::UsbRun;
-use turns::Stop;
+use run_operation::RunAnswer;
+use run_operation::UsbRun;
+use run_turn::Stop;
 
 fn stop_answer(stop: Stop, beside: Beside) -> Answer {
     let signature = beside.signature;
@@ -56,7 +56,7 @@ fn run(budget: u32, world: World, own: &mut [u8], flash: &mut [u8], store: &[u8]
     let device = world.device;
     let n = within(current.length, own);
     let m = within(device.flash, flash);
-    let done = runner::run(
+    let done = run_operation::run(
         current.record,
         device.state,
         &mut flash[..m],

@@ -1,5 +1,4 @@
 -- The turns are counted up to a number that no deck reaches.
--- Assumes nothing.
 use Prim.Native.Nat.{_-_}
 use borrow.Author.Needs.{needs}
 use Rattle.bench.proofs.deal_all.Statement.{statement}

@@ -1,5 +1,4 @@
 -- A turn for each block that a chunk has room for.
--- Assumes nothing.
 use Prim.Native.Nat.{_-_, _≤_}
 use borrow.Author.Needs.{needs}
 use Rattle.bench.proofs.deal_chunk.Statement.{statement}

@@ -1,5 +1,4 @@
 -- A register's high byte xor a byte is an index below 256; the entry there and the low byte moved up make the definition's step (`bytewise`).
--- Assumes nothing.
 use Prim.Native.Nat.{ℕ, _/_, _*_, _%_, _<_}
 use mathlib.Core.Path.{_≡_, sym, ap, _∙_}
 use mathlib.Core.List.{List}

@@ -1,5 +1,4 @@
 -- 64 bits behind 64 bits (`next-word`).
--- Assumes nothing.
 use mathlib.Core.Path.{sym}
 use native.Mathlib.Omega.{arith}
 use Rattle.crc.proofs.Words.{over, gathered, folded, next-word}

@@ -1,5 +1,4 @@
 -- What the register makes of the bytes that are left stays what the start makes of all of them; the measure is how many are left.
--- Assumes nothing.
 use Prim.Native.Nat.{ℕ, _+_, _-_, _≤_, _<_}
 use mathlib.Core.Path.{_≡_, refl, ap, sym, _∙_}
 use native.Mathlib.Omega.{arith}

@@ -1,5 +1,4 @@
 -- The bits as eight bytes (`as-bytes`), which go one by one, and the rest behind them.
--- Assumes nothing.
 use Prim.Native.Nat.{ℕ}
 use mathlib.Core.Path.{ap, _∙_}
 use native.Mathlib.Omega.{arith}

@@ -1,5 +1,4 @@
 -- The constant is the computed list: the rule of the table, shown once over all 256 entries.
--- Assumes nothing.
 use mathlib.Core.Path.{refl}
 use Rattle.crc.specs.Check.{byteStep, bitsStep, bitStep}
 use Rattle.crc.specs.Table.{rows, entry, crcTable}

@@ -1,5 +1,4 @@
 -- Eight bytes after eight go into 64 bits (`next-word`): what their register makes of the bytes that are left stays what the start makes of all of them.
--- Assumes nothing.
 use Prim.Native.Nat.{ℕ, _+_, _-_, _*_, _/_, _%_, _^_, _≤_, _<_}
 use mathlib.Core.Path.{_≡_, refl, ap, sym, _∙_}
 use mathlib.Core.List.{List}

@@ -1,9 +1,8 @@
 -- `Done` asks for nothing any more, every other place for a control write (`asks-write`).
--- Assumes nothing.
 use borrow.Author.Needs.{needs}
 use mathlib.Core.Path.{ap, sym}
-use Rattle.wire.specs.Told.{given}
-use Rattle.transfer.specs.declared.MaskRomSteps.{MaskRomSteps}
+use Rattle.promise.specs.Told.{given}
+use Rattle.maskrom_transfer.specs.declared.MaskRomSteps.{MaskRomSteps}
 use Rattle.maskrom.specs.declared.Control.{Control}
 use Rattle.maskrom.specs.Answers.{stepTold, writes}
 use Rattle.maskrom.specs.PartWise.{asks}

@@ -1,12 +1,11 @@
 -- What `copy` leaves begins with the bytes copied.
--- Assumes nothing.
 use borrow.Author.Needs.{needs}
 use Prim.Native.Nat.{ℕ}
 use mathlib.Core.Path.{ap, _∙_}
 use mathlib.Core.List.{List}
 use denote.Ref.{now}
 use lib.ListN.{length, take, replicate}
-use Rattle.transfer.proofs.Lists.{copied}
+use Rattle.maskrom_transfer.proofs.Lists.{copied}
 use Rattle.maskrom.proofs.Lists.{take-front}
 use Rattle.maskrom.proofs.block_of.Statement.{statement}
 use Rattle.maskrom.proofs.block_of.Tie as tie

@@ -1,10 +1,9 @@
 -- A block at most while the image is written, and nothing once it is (`sends-none`).
--- Assumes nothing.
 use Prim.Native.Nat.{min}
 use mathlib.Core.Path.{ap, sym, _∙_}
 use native.Mathlib.Omega.{arith}
 use borrow.Author.Needs.{needs}
-use Rattle.transfer.specs.declared.MaskRomSteps.{MaskRomSteps}
+use Rattle.maskrom_transfer.specs.declared.MaskRomSteps.{MaskRomSteps}
 use Rattle.maskrom.specs.Whole.{most}
 use Rattle.maskrom.proofs.Cases.{sends-none}
 use Rattle.maskrom.proofs.chunk_size.Statement.{statement}

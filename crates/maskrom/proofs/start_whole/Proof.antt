@@ -1,12 +1,11 @@
 -- The test is the rule of 25; beside it stands a fresh record of length 0, else one of the length of the image.
--- Assumes nothing.
 use borrow.Author.Needs.{needs}
 use borrow.Author.Tests.{lt-ltb, le-ltb}
 use denote.Ref.{now}
 use lib.ListN.{length}
-use Rattle.wire.specs.Rules.{unless}
+use Rattle.promise.specs.Rules.{unless}
 use Rattle.maskrom.specs.Answers.{longest, startTold}
-use Rattle.transfer.specs.Does.{said, after}
+use Rattle.promise.specs.Does.{said, after}
 use Rattle.maskrom.specs.Whole.{startStep}
 use Rattle.maskrom.proofs.start_whole.Statement.{statement}
 use Rattle.maskrom.proofs.start_whole.Tie as tie

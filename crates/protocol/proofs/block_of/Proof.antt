@@ -5,7 +5,7 @@ use native.Mathlib.Omega.{arith}
 use borrow.Author.Needs.{needs}
 use denote.Ref.{now}
 use lib.ListN.{length}
-use Rattle.block.proofs.Short.{field-elements}
+use Rattle.protocol_bytes.proofs.Short.{field-elements}
 use Rattle.protocol.specs.CommandBytes.{blockOf}
 use Rattle.protocol.proofs.block_of.Statement.{statement}
 use Rattle.protocol.proofs.block_of.Tie as tie

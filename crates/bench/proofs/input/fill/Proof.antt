@@ -1,5 +1,4 @@
 -- A turn for each byte that the chunk has room for.
--- Assumes nothing.
 use Prim.Native.Nat.{_-_}
 use borrow.Author.Needs.{needs}
 use Rattle.bench.proofs.input.fill.Statement.{statement}

@@ -1,5 +1,4 @@
 -- The lesser of the two is at most the length, and so is a count of the slice's bytes.
--- Assumes nothing.
 use native.Mathlib.Omega.{arith}
 use lib.ListN.{length-take}
 use borrow.Author.Needs.{needs}

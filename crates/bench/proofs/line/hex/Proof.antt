@@ -1,5 +1,4 @@
 -- A turn for each byte.
--- Assumes nothing.
 use Prim.Native.Nat.{_-_}
 use lib.ListN.{length}
 use borrow.Author.Needs.{needs}

@@ -1,17 +1,16 @@
 -- The step is what `send` tells at the bytes that wait: told on as a step of this record, or its refusal passed on.
--- Assumes nothing.
 use Prim.Native.Nat.{ℕ}
 use mathlib.Core.Path.{_≡_, ap, subst, _∙_}
 use mathlib.Core.List.{List, []}
 use borrow.Author.Needs.{needs}
 use denote.Ref.{now}
 use lib.ListN.{length}
-use Rattle.wire.specs.Told.{Told, given, refused}
-use Rattle.transfer.specs.declared.Moved.{Moved}
-use Rattle.transfer.specs.declared.Sent.{Sent}
-use Rattle.transfer.specs.Does.{Does, Meets}
-use Rattle.transfer.specs.Sending.{tooShort, sentTold, sendStep}
-use Rattle.transfer.proofs.Cases.{goes-on, passes-on}
+use Rattle.promise.specs.Told.{Told, given, refused}
+use Rattle.maskrom_transfer.specs.declared.Moved.{Moved}
+use Rattle.maskrom_transfer.specs.declared.Sent.{Sent}
+use Rattle.promise.specs.Does.{Does, Meets}
+use Rattle.maskrom_transfer.specs.Sending.{tooShort, sentTold, sendStep}
+use Rattle.maskrom_transfer.proofs.Cases.{goes-on, passes-on}
 use Rattle.maskrom.specs.declared.MaskRomOperation.{MaskRomOperation}
 use Rattle.maskrom.specs.declared.CloseStepped.{CloseStepped}
 use Rattle.maskrom.specs.Answers.{stepTold, Asks}

@@ -1,5 +1,4 @@
 -- What comes back of the lent part has the bytes behind those that waited (`put-mid`); the rest of the record is rebuilt as `holding` says.
--- Assumes nothing.
 use Prim.Native.Nat.{_+_, _%_}
 use mathlib.Core.Path.{_≡_, ap₂, _∙_}
 use native.Mathlib.Omega.{arith}

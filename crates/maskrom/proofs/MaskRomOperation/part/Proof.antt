@@ -1,6 +1,5 @@
 -- Each test is a rule in the document's order. Past them as many bytes are taken as the block has room for, which are the definition's
 -- (`take-min`), and where they fill it the output begins with the block (`filled-block`).
--- Assumes nothing.
 use Prim.Native.Nat.{ℕ, _+_, _-_, _<_}
 use mathlib.Core.Path.{_≡_, refl, ap, ap₂, sym, _∙_}
 use mathlib.Core.Bool.{false}
@@ -9,18 +8,18 @@ use native.Mathlib.Omega.{arith}
 use borrow.Author.Needs.{needs}
 use denote.Ref.{now}
 use lib.ListN.{length, take, length-take}
-use Rattle.wire.specs.Told.{given}
-use Rattle.wire.specs.Bytes.{front}
+use Rattle.promise.specs.Told.{given}
+use Rattle.promise.specs.Bytes.{front}
 use Rattle.maskrom.specs.declared.MaskRomOperation.{MaskRomOperation}
 use Rattle.maskrom.specs.declared.Control.{Control}
 use Rattle.maskrom.specs.declared.PartStepped.{PartStepped}
 use Rattle.maskrom.specs.Answers.{tooLong, closedAlready, control, took, filled, partTold}
-use Rattle.transfer.specs.Sending.{tooShort}
-use Rattle.transfer.specs.Does.{does}
+use Rattle.maskrom_transfer.specs.Sending.{tooShort}
+use Rattle.promise.specs.Does.{does}
 use Rattle.maskrom.specs.PartWise.{waiting, held, closed, holding, takes, partStep}
 use Rattle.maskrom.proofs.Lists.{filled-block, filled-length}
-use Rattle.transfer.proofs.Lists.{take-min, copied}
-use Rattle.transfer.proofs.Cases.{keeps, acts}
+use Rattle.maskrom_transfer.proofs.Lists.{take-min, copied}
+use Rattle.maskrom_transfer.proofs.Cases.{keeps, acts}
 use Rattle.maskrom.proofs.Cases.{is-closed, part-20, part-26, part-25, part-takes, takes-full, takes-some}
 use Rattle.maskrom.proofs.MaskRomOperation.part.Statement.{statement}
 use Rattle.maskrom.proofs.MaskRomOperation.part.Tie as tie

@@ -1,7 +1,7 @@
 -- Each arm gives the number of what its answer tells.
 use mathlib.Core.Path.{ap, sym}
 use borrow.Author.Needs.{needs}
-use Rattle.wire.specs.Told.{number}
+use Rattle.promise.specs.Told.{number}
 use Rattle.maskrom.specs.declared.UploadStart.{UploadStart}
 use Rattle.maskrom.specs.Answers.{startTold}
 use Rattle.maskrom.proofs.UploadStart.number.Statement.{statement}

@@ -1,5 +1,4 @@
 -- The tests are the rules of 20 and 27; past them the part of the image that is lent on is the chunk of the definition (`part-of`).
--- Assumes nothing.
 use Prim.Native.Nat.{ℕ, _+_, _-_, _≤_, min}
 use mathlib.Core.Path.{_≡_, refl, ap, ap₂, sym, subst, _∙_}
 use mathlib.Core.List.{List}
@@ -7,12 +6,12 @@ use native.Mathlib.Omega.{arith}
 use borrow.Author.Needs.{needs}
 use denote.Ref.{now}
 use lib.ListN.{length, take, drop, length-take}
-use Rattle.wire.specs.Told.{Told}
+use Rattle.promise.specs.Told.{Told}
 use Rattle.maskrom.specs.declared.WholeUpload.{WholeUpload}
 use Rattle.maskrom.specs.declared.WholeStepped.{WholeStepped}
-use Rattle.transfer.specs.Does.{Does, Meets}
-use Rattle.transfer.specs.Sending.{tooShort}
-use Rattle.transfer.proofs.Cases.{keeps}
+use Rattle.promise.specs.Does.{Does, Meets}
+use Rattle.maskrom_transfer.specs.Sending.{tooShort}
+use Rattle.maskrom_transfer.proofs.Cases.{keeps}
 use Rattle.maskrom.specs.Answers.{differs, stepTold, Asks}
 use Rattle.maskrom.specs.Whole.{most, chunk, sendsOn}
 use Rattle.maskrom.proofs.Lists.{part-of}

@@ -1,5 +1,4 @@
 -- Each arm is the case of the definition.
--- Assumes nothing.
 use mathlib.Core.Path.{ap, sym}
 use borrow.Author.Needs.{needs}
 use Rattle.mock.specs.Code.{areaResult}

@@ -1,5 +1,4 @@
 -- Three tests, as the definition has them.
--- Assumes nothing.
 use borrow.Author.Tests.{eq-eqb, ne-eqb}
 use Rattle.mock.specs.Device.{isUpload}
 use Rattle.mock.proofs.device.is_upload.Statement.{statement}

@@ -1,8 +1,7 @@
 -- A block is 0, a refusal its own number.
--- Assumes nothing.
 use mathlib.Core.Path.{ap, sym, _∙_}
 use borrow.Author.Needs.{needs}
-use Rattle.wire.specs.Told.{number}
+use Rattle.promise.specs.Told.{number}
 use Rattle.protocol.specs.declared.CommandAnswer.{CommandAnswer}
 use Rattle.protocol.specs.CommandMeets.{commandTold}
 use Rattle.protocol.proofs.CommandAnswer.number.Statement.{statement}

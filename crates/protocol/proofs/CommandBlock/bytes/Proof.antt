@@ -1,7 +1,7 @@
 -- `protocol::CommandBlock::bytes` meets its contract: each group of bytes is what its field is written as. Assumes nothing.
 use mathlib.Core.Path.{refl}
 use borrow.Author.Needs.{needs}
-use Rattle.wire.specs.Bytes.{lowFirst, highFirst}
+use Rattle.promise.specs.Bytes.{lowFirst, highFirst}
 use Rattle.protocol.specs.CommandBytes.{commandBytes}
 use Rattle.protocol.proofs.CommandBlock.bytes.Statement.{statement}
 use Rattle.protocol.proofs.CommandBlock.bytes.Tie as tie

@@ -8,9 +8,9 @@ use borrow.Author.Needs.{needs}
 use borrow.Author.Tests.{not-true, not-false}
 use denote.Ref.{now}
 use lib.ListN.{length, take}
-use Rattle.codes.specs.Reading.{directionReadTold, codeReadTold}
-use Rattle.block.specs.Signature.{usbc, same}
-use Rattle.block.proofs.Short.{field-elements}
+use Rattle.protocol_codes.specs.Reading.{directionReadTold, codeReadTold}
+use Rattle.protocol_bytes.specs.Signature.{usbc, same}
+use Rattle.protocol_bytes.proofs.Short.{field-elements}
 use Rattle.protocol.specs.declared.CommandBlock.{CommandBlock}
 use Rattle.protocol.specs.declared.CommandAnswer.the-variants.{Block}
 use Rattle.protocol.specs.Code.{parsed}

@@ -1,7 +1,7 @@
 -- `protocol::CommandBlock::reset_device` meets its contract: the opcode is the value's number. Assumes nothing.
 use mathlib.Core.Path.{ap, _∙_}
 use borrow.Author.Needs.{needs}
-use Rattle.codes.specs.declared.CommandCode.the-variants.{DeviceReset}
+use Rattle.protocol_codes.specs.declared.CommandCode.the-variants.{DeviceReset}
 use Rattle.protocol.specs.Commands.{opcodeCommand}
 use Rattle.protocol.proofs.CommandBlock.reset_device.Statement.{statement}
 use Rattle.protocol.proofs.CommandBlock.reset_device.Tie as tie

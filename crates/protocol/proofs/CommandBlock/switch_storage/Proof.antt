@@ -1,7 +1,7 @@
 -- `protocol::CommandBlock::switch_storage` meets its contract: the opcode is the value's number. Assumes nothing.
 use mathlib.Core.Path.{ap, _∙_}
 use borrow.Author.Needs.{needs}
-use Rattle.codes.specs.declared.CommandCode.the-variants.{SwitchStorage}
+use Rattle.protocol_codes.specs.declared.CommandCode.the-variants.{SwitchStorage}
 use Rattle.protocol.specs.Commands.{opcodeCommand}
 use Rattle.protocol.proofs.CommandBlock.switch_storage.Statement.{statement}
 use Rattle.protocol.proofs.CommandBlock.switch_storage.Tie as tie

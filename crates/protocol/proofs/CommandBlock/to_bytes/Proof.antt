@@ -1,7 +1,7 @@
 -- `protocol::CommandBlock::to_bytes` meets its contract: a short buffer is left, and a longer one has the block at its front. Assumes nothing.
 use borrow.Author.Needs.{needs}
 use denote.Ref.{now}
-use Rattle.block.proofs.Writer.{writes-nothing, writes-block}
+use Rattle.protocol_bytes.proofs.Writer.{writes-nothing, writes-block}
 use Rattle.protocol.specs.CommandBytes.{commandBytes, writeCommand}
 use Rattle.protocol.proofs.CommandBlock.to_bytes.Statement.{statement}
 use Rattle.protocol.proofs.CommandBlock.to_bytes.Tie as tie

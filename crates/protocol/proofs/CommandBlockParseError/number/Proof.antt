@@ -1,5 +1,4 @@
 -- Each arm's number is the definition's.
--- Assumes nothing.
 use mathlib.Core.Path.{refl}
 use borrow.Author.Needs.{needs}
 use Rattle.protocol.specs.CommandMeets.{commandErrorNumber}

@@ -1,5 +1,4 @@
 -- The answer is turned into the device's.
--- Assumes nothing.
 use borrow.Author.Needs.{needs}
 use Rattle.mock.proofs.device.MockState.after_areas.Statement.{statement}
 use Rattle.mock.proofs.device.MockState.after_areas.Tie as tie

@@ -1,8 +1,7 @@
 -- The length tells what it does at every call; the record is fresh.
--- Assumes nothing.
 use mathlib.Core.Path.{refl}
 use borrow.Author.Needs.{needs}
-use Rattle.answer.proofs.Telling.{size-answers}
+use Rattle.mock_base.proofs.Telling.{size-answers}
 use Rattle.mock.specs.Device.{created, freshState}
 use Rattle.mock.proofs.device.MockState.new.Statement.{statement}
 use Rattle.mock.proofs.device.MockState.new.Tie as tie

@@ -1,5 +1,4 @@
 -- A step of the session, put back into the record.
--- Assumes nothing.
 use mathlib.Core.Path.{ap}
 use borrow.Author.Needs.{needs}
 use Rattle.mock.specs.Device.{readBulk, withSession}

@@ -1,16 +1,15 @@
 -- 65 and 51 in this order, then the append, put back into the record.
--- Assumes nothing.
 use mathlib.Core.Path.{refl, ap, sym, _∙_}
 use mathlib.Core.List.{[], _∷_}
 use denote.Ref.{now}
 use lib.ListN.{length}
 use borrow.Author.Needs.{needs}
 use borrow.Author.Tests.{eq-eqb, ne-eqb, not-true, not-false}
-use Rattle.wire.specs.Told.{refused}
-use Rattle.lent.specs.Outcome.{orRefuse}
-use Rattle.answer.specs.Told.{errorValues}
-use Rattle.answer.specs.declared.error.MockTransportError.the-variants.{UnsupportedControl, StoreLength}
-use Rattle.answer.proofs.Telling.{answers-error}
+use Rattle.promise.specs.Told.{refused}
+use Rattle.promise.specs.Outcome.{orRefuse}
+use Rattle.mock_base.specs.Told.{errorValues}
+use Rattle.mock_base.specs.declared.error.MockTransportError.the-variants.{UnsupportedControl, StoreLength}
+use Rattle.mock_base.proofs.Telling.{answers-error}
 use Rattle.mock.specs.Device.{controlRules, writeControl, withAreas}
 use Rattle.mock.proofs.Appended.{area-answers}
 use Rattle.mock.proofs.device.MockState.write_control.Statement.{statement}

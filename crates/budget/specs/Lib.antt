@@ -1,2 +1,0 @@
--- A run with a budget, over any turn.
-pub mod Run

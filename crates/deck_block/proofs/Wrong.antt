@@ -1,0 +1,150 @@
+-- Programs that the contracts rule out, whatever their proofs: each answer is refuted at a named block.
+use Prim.Native.Nat.{ℕ, suc, _+_, _^_, _<_}
+use mathlib.Core.Path.{_≡_, refl, ap, sym, _∙_}
+use mathlib.Core.Bool.{not}
+use mathlib.Core.List.{List, [], _∷_, _++_}
+use native.Mathlib.Omega.{arith}
+use borrow.Author.Tests.{eq-eqb}
+use lib.Dec.{lit<}
+use lib.ListN.{length, take, replicate, length-append}
+use lib.Seq.{take-at, drop-at}
+use Rattle.promise.specs.Told.{Told, given, refused, number}
+use Rattle.promise.specs.Rules.{rule, unless}
+use Rattle.promise.specs.Bytes.{field, lowFirst, highFirst, fromLow, fromHigh}
+use Rattle.promise.proofs.Order.{from-high-first}
+use Rattle.crc.specs.Check.{check, start}
+use Rattle.crc.proofs.Laws.{over-lt}
+use Rattle.deck_block.specs.declared.Request.{Request}
+use Rattle.deck_block.specs.declared.Request.the-variants as request
+use Rattle.deck_block.specs.declared.CardAnswer.{CardAnswer}
+use Rattle.deck_block.specs.declared.CardAnswer.the-variants as answer
+use Rattle.deck_block.specs.Block.{fieldsOf, blockCheck, allZero, isKind, tooLarge}
+use Rattle.deck_block.specs.Reading.{requestOf, readCard, cardTold}
+
+-- 510 bytes with their check behind them
+abbrev pub sealed : List ℕ → List ℕ
+sealed body = body ++ highFirst 2 (check body)
+
+two-bytes : (v : ℕ) → take 2 (highFirst 2 v) ≡ highFirst 2 v
+unfolding highFirst lowFirst
+two-bytes v = refl
+
+whole-block : (body : List ℕ) → length body ≡ 510 → length (sealed body) ≡ 512
+unfolding highFirst lowFirst
+whole-block body long = length-append body (highFirst 2 (check body)) ∙ ap (λ (n : ℕ). n + 2) long
+
+-- their check is right
+check-right : (body : List ℕ) → length body ≡ 510 → fieldsOf (sealed body) .check ≡ blockCheck 1 (sealed body)
+unfolding fieldsOf blockCheck
+check-right body long =
+    let c = check body in
+    let small : c < 2 ^ 16 = over-lt start body (lit< tt) in
+    let behind : field 510 2 (sealed body) ≡ highFirst 2 c = ap (take 2) (drop-at body (highFirst 2 c) 510 long) ∙ two-bytes c in
+    let before : take 510 (sealed body) ≡ body = take-at body (highFirst 2 c) 510 long in
+    ap fromHigh behind ∙ from-high-first 2 c (omega arith) ∙ sym (ap check before)
+
+-- so the rules behind it are looked at
+rest-read : (body : List ℕ) → length body ≡ 510
+    → readCard 1 (sealed body)
+    ≡ unless
+    (rule (not (isKind (fieldsOf (sealed body) .kind))) 41 []
+    ∷ rule (not (allZero (field 8 502 (sealed body)))) 42 []
+    ∷ rule (tooLarge (fieldsOf (sealed body))) 43 []
+    ∷ [])
+    (requestOf (fieldsOf (sealed body)))
+unfolding readCard unless
+rest-read body long = rw (whole-block body long, eq-eqb _ _ (check-right body long)) refl
+
+-- a body by its kind, the last bytes of its word, its half and byte 8
+abbrev pub body : ℕ → ℕ → ℕ → ℕ → ℕ → ℕ → List ℕ
+body kind word1 word0 half1 half0 ninth = kind ∷ 0 ∷ 0 ∷ word1 ∷ word0 ∷ half1 ∷ half0 ∷ 0 ∷ ninth ∷ replicate 501 0
+
+-- chip info, flash id, an erase of 0x0102 sectors, an image of 8,193 bytes, an unknown kind with byte 8 set, an upload without check
+abbrev chip : List ℕ
+chip = sealed (body 1 0 0 0 0 0)
+
+abbrev flash-id : List ℕ
+flash-id = sealed (body 2 0 0 0 0 0)
+
+abbrev erase : List ℕ
+erase = sealed (body 5 0 0 1 2 0)
+
+abbrev long-image : List ℕ
+long-image = sealed (body 12 0x20 1 0 0 0)
+
+abbrev pub unknown : List ℕ
+unknown = sealed (body 0 0 0 0 0 1)
+
+abbrev unchecked : List ℕ
+unchecked = sealed (body 13 0 0 0 0 0)
+
+read-chip : readCard 1 chip ≡ given request.ChipInfo
+unfolding unless requestOf fieldsOf allZero isKind tooLarge fromLow fromHigh
+read-chip = rest-read (body 1 0 0 0 0 0) refl
+
+read-id : readCard 1 flash-id ≡ given request.FlashId
+unfolding unless requestOf fieldsOf allZero isKind tooLarge fromLow fromHigh
+read-id = rest-read (body 2 0 0 0 0 0) refl
+
+read-erase : readCard 1 erase ≡ given (request.EraseLba 0 0x0102)
+unfolding unless requestOf fieldsOf allZero isKind tooLarge fromLow fromHigh
+read-erase = rest-read (body 5 0 0 1 2 0) refl
+
+read-image : readCard 1 long-image ≡ refused 43 []
+unfolding unless requestOf fieldsOf allZero isKind tooLarge fromLow fromHigh
+read-image = rest-read (body 12 0x20 1 0 0 0) refl
+
+pub read-unknown : readCard 1 unknown ≡ refused 41 []
+unfolding unless requestOf fieldsOf allZero isKind tooLarge fromLow fromHigh
+read-unknown = rest-read (body 0 0 0 0 0 1) refl
+
+read-unchecked : readCard 1 unchecked ≡ given (request.WriteAreaNoCrc 0 0 0)
+unfolding unless requestOf fieldsOf allZero isKind tooLarge fromLow fromHigh
+read-unchecked = rest-read (body 13 0 0 0 0 0) refl
+
+pub read-none : readCard 1 [] ≡ refused 44 []
+unfolding readCard unless
+read-none = refl
+
+-- a reader that refuses every block
+pub always-refusing : (r : CardAnswer) (n : ℕ) (values : List ℕ) → cardTold r ≡ refused n values → cardTold r ≡ readCard 1 chip → ⊥
+always-refusing r n values told meets = let z : _≡_ {A = ℕ} 0 1 = cc (told, meets, read-chip) in omega arith
+
+-- one answer for all blocks
+pub fixed-answer : (r : CardAnswer) → cardTold r ≡ readCard 1 [] → cardTold r ≡ readCard 1 chip → ⊥
+fixed-answer r none some = always-refusing r 44 [] (none ∙ read-none) some
+
+-- one request for two kinds: the flash id asked for as the chip's
+pub one-request : cardTold (answer.Asks request.ChipInfo) ≡ readCard 1 flash-id → ⊥
+unfolding cardTold
+one-request meets = let z : _≡_ {A = ℕ} 0 1 = cc (meets, read-id) in omega arith
+
+-- the count read the low byte first
+pub little-endian : cardTold (answer.Asks (request.EraseLba 0 0x0201)) ≡ readCard 1 erase → ⊥
+unfolding cardTold
+little-endian meets = let z : _≡_ {A = ℕ} 0x0201 0x0102 = cc (meets, read-erase) in omega arith
+
+-- kind 13 not known
+pub kind-13-unknown : cardTold answer.UnknownKind ≡ readCard 1 unchecked → ⊥
+unfolding cardTold
+kind-13-unknown meets = let z : _≡_ {A = ℕ} 0 1 = cc (meets, read-unchecked) in omega arith
+
+-- an image of 8,193 bytes let through
+pub longer-images : (q : Request) → cardTold (answer.Asks q) ≡ readCard 1 long-image → ⊥
+unfolding cardTold
+longer-images q meets = let z : _≡_ {A = ℕ} 0 1 = cc (meets, read-image) in omega arith
+
+-- bytes 8 to 509 looked at before the kind
+pub kind-after-zeros : cardTold answer.NotZero ≡ readCard 1 unknown → ⊥
+unfolding cardTold
+kind-after-zeros meets = let z : _≡_ {A = ℕ} 42 41 = cc (meets, read-unknown) in omega arith
+
+-- one number for two refusals
+pub one-number : (n : ℕ) → n ≡ number (cardTold answer.Short) → n ≡ number (cardTold answer.BadCheck) → ⊥
+unfolding number cardTold
+one-number n short bad = omega arith
+
+-- a request numbered as a refusal
+pub request-refused : (q : Request) (n : ℕ) → suc n ≡ number (cardTold (answer.Asks q)) → ⊥
+unfolding number cardTold
+request-refused q n e = omega arith

@@ -1,0 +1,90 @@
+-- The fields of a deck's block, its check, and what its rules test.
+use Prim.Native.Nat.{ℕ}
+use mathlib.Core.Bool.{Bool, true, false}
+use mathlib.Core.List.{List, [], _∷_}
+use lib.ListN.{getD, take}
+use lib.Dec.{eqb, ltb, leb}
+use Rattle.promise.specs.Rules.{pick}
+use Rattle.promise.specs.Bytes.{field, fromHigh}
+use Rattle.crc.specs.Check.{check}
+use Rattle.deck_block.specs.declared.Fields.{Fields}
+
+-- "512-byte blocks"
+abbrev pub blockLength : ℕ
+blockLength = 512
+
+-- "Byte 0 kind"; "1-4 address or image length, 5-6 count or area (big-endian); 7 opcode, index or the fill byte"; "bytes 510-511 .., high byte first"
+unfoldable pub fieldsOf : List ℕ → Fields
+fieldsOf block =
+    record {
+      kind = getD block 0 0;
+      word = fromHigh (field 1 4 block);
+      half = fromHigh (field 5 2 block);
+      byte = getD block 7 0;
+      check = fromHigh (field 510 2 block);
+    }
+
+-- the check of the block that has this tag: "the CRC-16/IBM-3740 of bytes 0-509"
+unfoldable pub blockCheck : ℕ → List ℕ → ℕ
+blockCheck tag block = check (take 510 block)
+
+unfoldable pub allZero : List ℕ → Bool
+allZero [] = true
+allZero (b ∷ bs) = pick (eqb b 0) (allZero bs) false
+
+-- the kinds
+abbrev pub chipInfoKind : ℕ
+chipInfoKind = 1
+
+abbrev pub flashIdKind : ℕ
+flashIdKind = 2
+
+abbrev pub flashInfoKind : ℕ
+flashInfoKind = 3
+
+abbrev pub capabilityKind : ℕ
+capabilityKind = 4
+
+abbrev pub eraseLbaKind : ℕ
+eraseLbaKind = 5
+
+abbrev pub eraseForceKind : ℕ
+eraseForceKind = 6
+
+abbrev pub readKind : ℕ
+readKind = 7
+
+abbrev pub writeKind : ℕ
+writeKind = 8
+
+abbrev pub resetKind : ℕ
+resetKind = 9
+
+abbrev pub storageKind : ℕ
+storageKind = 10
+
+abbrev pub switchKind : ℕ
+switchKind = 11
+
+abbrev pub uploadKind : ℕ
+uploadKind = 12
+
+abbrev pub uncheckedKind : ℕ
+uncheckedKind = 13
+
+unfoldable pub isKind : ℕ → Bool
+isKind k = pick (ltb k chipInfoKind) false (leb k uncheckedKind)
+
+-- "read or write above 16 sectors or image above 8,192"
+abbrev pub mostDeckSectors : ℕ
+mostDeckSectors = 16
+
+abbrev pub longestImage : ℕ
+longestImage = 8192
+
+unfoldable pub tooLarge : Fields → Bool
+tooLarge f =
+    pick (eqb (f .kind) readKind) (ltb mostDeckSectors (f .half))
+    (pick (eqb (f .kind) writeKind) (ltb mostDeckSectors (f .half))
+    (pick (eqb (f .kind) uploadKind) (ltb longestImage (f .word))
+    (pick (eqb (f .kind) uncheckedKind) (ltb longestImage (f .word)) false)))

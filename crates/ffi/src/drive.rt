@@ -1,0 +1,27 @@
+// Uploads driven to their end over one lent output: 0 or the number of the refusal.
+
+use maskrom::UploadStart;
+ghost use Rattle.ffi.specs.Drive.{DriveMeets, wholeDrive, partDrive};
+
+// A whole upload to its finish, each transfer at the front of `out`: 28 past `budget` steps.
+pub fn whole(area: u16, checked: bool, image: &[u8], out: &mut [u8], budget: u32) -> u8
+    ensures { λ r. ⌜ DriveMeets r (now (out .exit)) (wholeDrive area checked (now (image .entry)) (now (out .entry)) budget) ⌝ }
+{
+    let started = uploads::start(area, checked, image);
+    let start = started.start;
+    let UploadStart::Started = start else {
+        return start.number();
+    };
+    uploads::whole_on(started.upload, image, out, budget)
+}
+
+// A whole upload in parts of `size` bytes, handed over by `budget` calls at most.
+pub fn parts(area: u16, checked: bool, size: usize, image: &[u8], out: &mut [u8], budget: u32) -> u8
+    ensures { λ r. ⌜ DriveMeets r (now (out .exit)) (partDrive area checked size (now (image .entry)) (now (out .entry)) budget) ⌝ }
+{
+    let over = uploads::hand_over(uploads::fresh(area, checked), size, image, out, budget);
+    if over.number != 0 {
+        return over.number;
+    }
+    uploads::close_on(over.operation, out)
+}

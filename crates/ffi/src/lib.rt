@@ -1,0 +1,92 @@
+mod uploads;
+pub mod drive;
+pub mod carry;
+pub mod fields;
+// What C and Rust link: the proved functions over numbers and byte slices, each with the contract of the one that it calls.
+ghost use mathlib.Core.Path.{_≡_};
+ghost use lib.ListN.{length};
+ghost use Rattle.promise.specs.Bytes.{front};
+ghost use Rattle.promise.specs.Told.{number};
+ghost use Rattle.crc.specs.Check.{crcOver};
+ghost use Rattle.protocol.specs.Commands.{readLbaCommand};
+ghost use Rattle.protocol.specs.CommandBytes.{readCommand, writeCommand};
+ghost use Rattle.ffi.specs.Drive.{DriveMeets, wholeDrive, partDrive};
+ghost use Rattle.ffi.specs.Sectors.{SectorsMeet, readSectors, writeSectors};
+ghost use Rattle.ffi.specs.Command.{commandNumber};
+
+// The register after all of `bytes`.
+#[no_mangle]
+pub extern "C" fn otterarch_crc_update(crc: u16, bytes: &[u8]) -> u16
+    ensures { λ r. ⌜ r ≡ crcOver crc (now (bytes .entry)) ⌝ }
+{
+    crc::update(crc, bytes)
+}
+
+// The same a byte at a time by the 256-entry table, as the original does it.
+#[no_mangle]
+pub extern "C" fn otterarch_crc_update_by_table(crc: u16, bytes: &[u8]) -> u16
+    ensures { λ r. ⌜ r ≡ crcOver crc (now (bytes .entry)) ⌝ }
+{
+    crc::update_by_table(crc, bytes)
+}
+
+// A whole upload to its finish, each transfer at the front of `out`: 0 or the number of the refusal, 28 past `budget` steps.
+#[no_mangle]
+pub extern "C" fn otterarch_upload_whole(
+    area: u16,
+    checked: bool,
+    image: &[u8],
+    out: &mut [u8],
+    budget: u32,
+) -> u8
+    ensures { λ r. ⌜ DriveMeets r (now (out .exit)) (wholeDrive area checked (now (image .entry)) (now (out .entry)) budget) ⌝ }
+{
+    crate::drive::whole(area, checked, image, out, budget)
+}
+
+// A whole upload in parts of `size` bytes, handed over by `budget` calls at most.
+#[no_mangle]
+pub extern "C" fn otterarch_upload_parts(
+    area: u16,
+    checked: bool,
+    size: usize,
+    image: &[u8],
+    out: &mut [u8],
+    budget: u32,
+) -> u8
+    ensures { λ r. ⌜ DriveMeets r (now (out .exit)) (partDrive area checked size (now (image .entry)) (now (out .entry)) budget) ⌝ }
+{
+    crate::drive::parts(area, checked, size, image, out, budget)
+}
+
+// The command that reads `sectors` from sector `first`, into the first 24 bytes of `out`: 0 or 20.
+#[no_mangle]
+pub extern "C" fn otterarch_command_write(tag: u32, first: u32, sectors: u16, out: &mut [u8]) -> u8
+    ensures { λ r. ⌜ (r ≡ number (writeCommand (readLbaCommand tag first sectors) (length (now (out .entry))) .told)) × (now (out .exit) ≡ front (writeCommand (readLbaCommand tag first sectors) (length (now (out .entry))) .sent) (now (out .entry))) ⌝ }
+{
+    crate::fields::write_command(tag, first, sectors, out)
+}
+
+// Code, address and count of a command as one number, or the number of the refusal above them.
+#[no_mangle]
+pub extern "C" fn otterarch_command_read(bytes: &[u8]) -> u64
+    ensures { λ r. ⌜ r ≡ commandNumber (readCommand (now (bytes .entry))) ⌝ }
+{
+    crate::fields::read_command(bytes)
+}
+
+// Sectors of the flash from `first` on into all of `data`: 0 or the number of the refusal.
+#[no_mangle]
+pub extern "C" fn otterarch_read_sectors(first: u32, flash: &mut [u8], data: &mut [u8]) -> u8
+    ensures { λ r. ⌜ SectorsMeet r (now (flash .exit)) (now («data» .exit)) (readSectors first (now (flash .entry)) (now («data» .entry))) ⌝ }
+{
+    crate::carry::read_sectors(first, flash, data)
+}
+
+// All of `data` to the flash from sector `first` on: 0 or the number of the refusal.
+#[no_mangle]
+pub extern "C" fn otterarch_write_sectors(first: u32, flash: &mut [u8], data: &[u8]) -> u8
+    ensures { λ r. ⌜ SectorsMeet r (now (flash .exit)) (now («data» .entry)) (writeSectors first (now (flash .entry)) (now («data» .entry))) ⌝ }
+{
+    crate::carry::write_sectors(first, flash, data)
+}

@@ -1,2 +1,0 @@
--- `WrongFields`: programs that the contracts rule out.
-pub mod WrongFields

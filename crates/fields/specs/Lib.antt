@@ -1,2 +1,0 @@
--- `Command`: a command as one number.
-pub mod Command

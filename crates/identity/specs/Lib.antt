@@ -1,2 +1,0 @@
--- What a stand-in device says of itself.
-pub mod Config

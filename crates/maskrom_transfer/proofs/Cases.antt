@@ -1,0 +1,103 @@
+-- One law for each branch of a definition, and what the promises of callers are made from.
+use Prim.Native.Nat.{ℕ, _<_, _≤_}
+use mathlib.Core.Path.{_≡_, refl, ap, ap₂, sym, subst, _∙_}
+use mathlib.Core.Bool.{Bool, true, false}
+use mathlib.Core.List.{List, [], _∷_, _++_}
+use native.Mathlib.Omega.{arith}
+use lib.ListN.{length}
+use borrow.Author.Tests.{eq-eqb, ne-eqb, lt-ltb, le-ltb}
+use Rattle.promise.specs.Told.{Told, given, refused, andThen}
+use Rattle.promise.specs.Rules.{unless}
+use Rattle.promise.specs.Bytes.{front}
+use Rattle.promise.proofs.Order.{length-high-first}
+use Rattle.maskrom_transfer.specs.declared.Moved.{Moved}
+use Rattle.maskrom_transfer.specs.declared.MaskRomSteps.{MaskRomSteps}
+use Rattle.maskrom_transfer.specs.declared.MaskRomSteps.the-variants.{Writing, Check, Dummy, Done}
+use Rattle.maskrom_transfer.specs.Moves.{checkBytes, Moves, register, moves, writing, movesAt}
+use Rattle.maskrom_transfer.specs.Code.{SendMeets}
+use Rattle.promise.specs.Does.{Does, does, said, sent, after, Meets}
+use Rattle.maskrom_transfer.specs.Sending.{tooShort, moved, sendStep}
+
+-- the check is two bytes, or two zeros
+pub length-check : (checked : Bool) (crc : ℕ) → length (checkBytes checked crc) ≡ 2
+unfolding checkBytes
+length-check true crc = length-high-first 2 crc
+length-check false crc = refl
+
+module _ (checked : Bool) (crc : ℕ) (w : List ℕ) where
+  pub writing-block : length w ≡ 4096 → writing checked crc w ≡ moves w crc Writing
+  unfolding writing
+  writing-block e = rw (eq-eqb (length w) 4096 e)
+
+  pub writing-pad : length w ≡ 4095 → writing checked crc w ≡ moves (w ++ (0 ∷ [])) (register checked crc (0 ∷ [])) Check
+  unfolding writing
+  writing-pad e = rw (ne-eqb (length w) 4096 (omega arith), eq-eqb (length w) 4095 e)
+
+  pub writing-dummy : length w ≡ 4094 → writing checked crc w ≡ moves (w ++ checkBytes checked crc) crc Dummy
+  unfolding writing
+  writing-dummy e =
+      rw (ne-eqb (length w) 4096 (omega arith), ne-eqb (length w) 4095 (omega arith), eq-eqb (length w) 4094 e)
+
+  pub writing-last : length w < 4094 → writing checked crc w ≡ moves (w ++ checkBytes checked crc) crc Done
+  unfolding writing
+  writing-last h =
+      rw (ne-eqb (length w) 4096 (omega arith), ne-eqb (length w) 4095 (omega arith), ne-eqb (length w) 4094 (omega arith))
+
+-- bytes put at the front are the step's, where they are the step's bytes
+pub meets : (size crc crc′ : ℕ) (steps : MaskRomSteps) (bs bs′ old new : List ℕ) → (size ≡ length bs) × (new ≡ front bs old) → bs ≡ bs′
+    → crc ≡ crc′ → SendMeets (record { size = size; crc = crc; steps = steps }) old new (moves bs′ crc′ steps)
+meets size crc crc′ steps bs bs′ old new h e k =
+    subst (λ (l : List ℕ). SendMeets (record { size = size; crc = crc; steps = steps }) old new (moves l crc′ steps)) e
+    (record { size = h .0; crc = k; steps = refl; leaves = h .1 })
+
+pub at-steps : (r : Moved) (old new : List ℕ) (checked : Bool) (crc : ℕ) (w : List ℕ) {x y : MaskRomSteps} → x ≡ y
+    → SendMeets r old new (movesAt y checked crc w) → SendMeets r old new (movesAt x checked crc w)
+at-steps r old new checked crc w e = subst (λ (x : MaskRomSteps). SendMeets r old new (movesAt x checked crc w)) (sym e)
+
+pub moved-is : (r : Moved) (old new : List ℕ) (to : Moves) → SendMeets r old new to → r ≡ moved to
+moved-is r old new to m =
+    ap₂ (λ (n c : ℕ). record { size = n; crc = c; steps = r .steps }) (m .size) (m .crc)
+    ∙ ap (λ (s : MaskRomSteps). record { size = length (to .bytes); crc = to .crc; steps = s }) (m .steps)
+
+module _ (steps : MaskRomSteps) (checked : Bool) (crc : ℕ) (w : List ℕ) (room : ℕ) where
+  pub send-20 : room < 4096 → sendStep steps checked crc w room ≡ refused tooShort []
+  unfolding sendStep unless
+  send-20 h = rw (lt-ltb room 4096 h)
+
+  pub send-acts : 4096 ≤ room
+      → sendStep steps checked crc w room ≡ given (does (moved (movesAt steps checked crc w)) (movesAt steps checked crc w .bytes) tt)
+  unfolding sendStep unless
+  send-acts h = rw (le-ltb room 4096 h)
+
+-- a promise, from the branch that its definition takes
+pub keeps : {A R : Type 0} {told : Told A} {back self : R} {old new : List ℕ} {step : Told (Does A R)} (n : ℕ)
+    → step ≡ refused n [] → told ≡ refused n [] → back ≡ self → new ≡ old → Meets told back old new self step
+unfolding said sent after
+keeps n e t b o = rw e (record { tells = t; next = b; leaves = o })
+
+pub acts : {A R : Type 0} {told : Told A} {back self : R} {old new : List ℕ} {step : Told (Does A R)} (d : Does A R)
+    → step ≡ given d → told ≡ given (d .says) → back ≡ d .becomes → new ≡ front (d .sends) old → Meets told back old new self step
+unfolding said sent after
+acts d e t b o = rw e (record { tells = t; next = b; leaves = o })
+
+never : {A : Type 0} (a : A) (n : ℕ) (vs : List ℕ) → _≡_ {A = Told A} (given a) (refused n vs) → ⊥
+never a n vs e = let z : _≡_ {A = ℕ} 0 1 = cc in omega arith
+
+-- a promise that rests on another: what was told there is told on, or a refusal is passed on
+module _ {A B R : Type 0} (self : R) (old new : List ℕ) where
+  pub goes-on : (a : A) (f : A → B) (g : A → R) (step : Told (Does A Unit)) → Meets (given a) tt old new tt step
+      → Meets (given (f a)) (g a) old new self (andThen step (λ (d : Does A Unit). given (does (f (d .says)) (d .sends) (g (d .says)))))
+  unfolding andThen said sent after
+  goes-on a f g (given d) m =
+      let e : a ≡ d .says = cc (m .tells) in
+      record { tells = ap (λ (x : A). given (f x)) e; next = ap g e; leaves = m .leaves }
+  goes-on a f g (refused n vs) m = absurd (never a n vs (m .tells))
+
+  pub passes-on : (n : ℕ) (f : Does A Unit → Told (Does B R)) (step : Told (Does A Unit)) → Meets (refused n []) tt old new tt step
+      → Meets (refused n []) self old new self (andThen step f)
+  unfolding andThen said sent after
+  passes-on n f (given d) m = absurd (never (d .says) n [] (sym (m .tells)))
+  passes-on n f (refused k vs) m =
+      let e : n ≡ k = cc (m .tells) in
+      let h : [] ≡ vs = cc (m .tells) in
+      record { tells = ap₂ refused e h; next = refl; leaves = m .leaves }

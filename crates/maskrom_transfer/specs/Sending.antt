@@ -1,0 +1,31 @@
+-- One transfer put into the output, or the refusal of an output that is too short for any.
+use Prim.Native.Nat.{ℕ}
+use mathlib.Core.Bool.{Bool}
+use mathlib.Core.List.{List, [], _∷_}
+use lib.ListN.{length}
+use lib.Dec.{ltb}
+use Rattle.promise.specs.Told.{Told, given, refused}
+use Rattle.promise.specs.Rules.{rule, unless}
+use Rattle.maskrom_transfer.specs.declared.MaskRomSteps.{MaskRomSteps}
+use Rattle.maskrom_transfer.specs.declared.Moved.{Moved}
+use Rattle.maskrom_transfer.specs.declared.Sent.{Sent}
+use Rattle.maskrom_transfer.specs.declared.Sent.the-variants as sent
+use Rattle.maskrom_transfer.specs.Moves.{blockSize, Moves, movesAt}
+use Rattle.promise.specs.Does.{Does, does}
+
+-- "output too short", "4,096 upload"
+abbrev pub tooShort : ℕ
+tooShort = 20
+
+unfoldable pub sentTold : Sent → Told Moved
+sentTold (sent.Moved m) = given m
+sentTold sent.OutputTooShort = refused tooShort []
+
+-- what is told of a step: how many bytes it put into the output, the register, and where the upload then stands
+abbrev pub moved : Moves → Moved
+moved to = record { size = length (to .bytes); crc = to .crc; steps = to .steps }
+
+unfoldable pub sendStep : MaskRomSteps → Bool → ℕ → List ℕ → ℕ → Told (Does Moved Unit)
+sendStep steps checked crc w room =
+    let to = movesAt steps checked crc w in
+    unless (rule (ltb room blockSize) tooShort [] ∷ []) (given (does (moved to) (to .bytes) tt))

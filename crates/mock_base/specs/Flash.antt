@@ -1,0 +1,53 @@
+-- Which flash the stand-in takes, and which ranges of it.
+use Prim.Native.Nat.{ℕ, _+_, _/_, _%_}
+use mathlib.Core.Bool.{Bool, not}
+use mathlib.Core.List.{List, [], _∷_}
+use lib.Dec.{eqb, leb, ltb}
+use Rattle.promise.specs.Told.{Told, given, refused}
+use Rattle.promise.specs.Rules.{Rule, rule, pick, unless}
+use Rattle.protocol_bytes.specs.Sector.{sectorSize}
+use Rattle.mock_base.specs.Told.{errorTold}
+use Rattle.protocol_bytes.specs.Signature.{noSignature}
+use Rattle.mock_base.specs.declared.error.MockAnswer.{MockAnswer}
+use Rattle.mock_base.specs.declared.error.MockResult.{MockResult}
+use Rattle.mock_base.specs.declared.error.MockResult.the-variants as result
+use Rattle.mock_base.specs.declared.range.FlashSectors.{FlashSectors}
+use Rattle.mock_base.specs.declared.range.FlashSectors.the-variants.{Whole, Refused}
+use Rattle.mock_base.specs.declared.range.FlashRange.{FlashRange}
+use Rattle.mock_base.specs.declared.range.RangeAnswer.{RangeAnswer}
+use Rattle.mock_base.specs.declared.range.RangeAnswer.the-variants.{Within, OutOfRange}
+
+-- whole sectors, at most 65,536
+abbrev pub mostFlashSectors : ℕ
+mostFlashSectors = 65536
+
+-- 60: FlashSize (length); 61: over 65,536 sectors; this order
+unfoldable pub flashRules : ℕ → List Rule
+flashRules n = rule (not (eqb (n % sectorSize) 0)) 60 (n ∷ []) ∷ rule (ltb mostFlashSectors (n / sectorSize)) 61 [] ∷ []
+
+unfoldable pub flashSectors : ℕ → Told ℕ
+flashSectors n = unless (flashRules n) (given (n / sectorSize))
+
+unfoldable pub sizeTold : FlashSectors → Told ℕ
+sizeTold (Whole sectors) = given sectors
+sizeTold (Refused error) = errorTold error noSignature
+
+-- the answer to a flash's length, as the code makes it
+unfoldable pub sizeResult : FlashSectors → MockResult
+sizeResult (Whole sectors) = result.Done
+sizeResult (Refused error) = result.Refused error
+
+abbrev pub sizeAnswer : FlashSectors → MockAnswer
+sizeAnswer size = record { result = sizeResult size; signature = noSignature }
+
+-- a range fits exactly if address plus count is at most the flash's sectors
+unfoldable pub fitsIn : ℕ → ℕ → ℕ → Bool
+fitsIn sectors first count = leb (first + count) sectors
+
+unfoldable pub rangeIn : ℕ → ℕ → ℕ → RangeAnswer
+rangeIn sectors first count = pick (fitsIn sectors first count) (Within (record { first = first; count = count })) OutOfRange
+
+-- 57: OutOfRange
+unfoldable pub rangeTold : RangeAnswer → Told FlashRange
+rangeTold (Within range) = given range
+rangeTold OutOfRange = refused 57 []

@@ -1,0 +1,37 @@
+-- The outcomes as the code makes them, for the contracts of its private functions.
+use Rattle.protocol_bytes.specs.Signature.{noSignature}
+use Rattle.protocol.specs.declared.CommandParse.{CommandParse}
+use Rattle.protocol.specs.declared.CommandAnswer.{CommandAnswer}
+use Rattle.protocol.specs.declared.CommandAnswer.the-variants.{Block}
+use Rattle.protocol.specs.declared.CommandAnswer.the-variants as answer
+use Rattle.mock_base.specs.declared.error.MockTransportError.{MockTransportError}
+use Rattle.mock_base.specs.declared.error.MockTransportError.the-variants.{CommandBlockError}
+use Rattle.mock_base.specs.declared.error.MockAnswer.{MockAnswer}
+use Rattle.mock_base.specs.declared.error.MockResult.{MockResult}
+use Rattle.mock_base.specs.declared.error.MockResult.the-variants.{Done, Refused}
+use Rattle.mock_table.specs.Turn.{session}
+use Rattle.mock_table.specs.declared.session.CommandState.{CommandState}
+use Rattle.mock_table.specs.declared.session.CommandState.the-variants as state
+use Rattle.mock_table.specs.declared.session.LastReset.{LastReset}
+use Rattle.mock_table.specs.declared.outcome.Effect.{Effect}
+use Rattle.mock_table.specs.declared.outcome.Effect.the-variants.{Nothing}
+use Rattle.mock_table.specs.declared.outcome.Outcome.{Outcome}
+
+-- a refusal of any row, and what a row settles on
+abbrev pub refusedWith : LastReset → MockTransportError → Outcome
+refusedWith reset error =
+    record { answer = record { result = Refused error; signature = noSignature }; session = session state.None reset; effect = Nothing }
+
+abbrev pub settled : CommandState → LastReset → Effect → Outcome
+settled state reset effect = record { answer = record { result = Done; signature = noSignature }; session = session state reset; effect = effect }
+
+-- what a parse is answered with
+unfoldable pub blockResult : CommandAnswer → MockResult
+blockResult (Block c) = Done
+blockResult (answer.Refused error) = Refused (CommandBlockError error)
+
+abbrev pub blockAnswer : CommandParse → MockAnswer
+blockAnswer parse = record { result = blockResult (parse .answer); signature = parse .signature }
+
+abbrev pub blockRefused : LastReset → CommandParse → Outcome
+blockRefused reset parse = record { answer = blockAnswer parse; session = session state.None reset; effect = Nothing }

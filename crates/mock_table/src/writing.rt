@@ -1,0 +1,137 @@
+// A bulk write: a command, or the data that one awaits.
+use super::outcome::Effect;
+use super::outcome::Outcome;
+use super::rows::has_code;
+use super::rows::refuse;
+use super::rows::sector_io;
+use super::rows::settle;
+use super::session::CommandState;
+use super::session::LastReset;
+use super::session::Session;
+use mock_base::error::MockAnswer;
+use mock_base::error::MockResult;
+use mock_base::error::MockTransportError;
+use mock_base::range::RangeAnswer;
+use mock_base::range::flash_range;
+use protocol_codes::CommandCode;
+use protocol_codes::Direction;
+use protocol_codes::ResetOpcode;
+use protocol_codes::ResetRead;
+use protocol::CommandAnswer;
+use protocol::CommandBlock;
+use protocol::CommandParse;
+ghost use mathlib.Core.Path.{_≡_};
+ghost use Rattle.mock_table.specs.Turn.{isErase, OutcomeMeets};
+ghost use Rattle.mock_table.specs.Code.{blockAnswer, blockRefused};
+ghost use Rattle.mock_table.specs.Table.{resetTurn, zeroLengthTurn, startTurn, writeIoTurn, writeTurn};
+ghost use Rattle.protocol.specs.CommandBytes.{readCommand};
+
+fn is_erase(command: CommandBlock) -> bool
+    ensures { λ r. ⌜ r ≡ isErase command ⌝ }
+{
+    if has_code(command, CommandCode::EraseLBA) {
+        return true;
+    }
+    has_code(command, CommandCode::EraseForce)
+}
+
+fn handle_reset(reset: LastReset, command: CommandBlock) -> Outcome
+    ensures { λ r. ⌜ OutcomeMeets r (resetTurn reset command) ⌝ }
+{
+    let opcode = command.cd_opcode;
+    let ResetRead::Known(known) = ResetOpcode::from_number(opcode) else {
+        return refuse(reset, MockTransportError::InvalidReset(opcode));
+    };
+    settle(
+        CommandState::Status(command),
+        LastReset::Some(known),
+        Effect::Nothing,
+    )
+}
+
+fn handle_zero_length_command(reset: LastReset, command: CommandBlock, sectors: usize) -> Outcome
+    ensures { λ r. ⌜ OutcomeMeets r (zeroLengthTurn reset command sectors) ⌝ }
+{
+    if is_erase(command) {
+        let RangeAnswer::Within(range) = flash_range(sectors, command.cd_address, command.cd_length)
+        else {
+            return refuse(reset, MockTransportError::OutOfRange);
+        };
+        return settle(CommandState::Status(command), reset, Effect::Fill(range));
+    }
+    if has_code(command, CommandCode::DeviceReset) {
+        return handle_reset(reset, command);
+    }
+    let code = command.cd_code;
+    refuse(reset, MockTransportError::UnknownCommand(code))
+}
+
+// What the device answers to a parse: done, or 56.
+fn block_answer(parse: CommandParse) -> MockAnswer
+    ensures { λ r. ⌜ r ≡ blockAnswer parse ⌝ }
+{
+    let answer = parse.answer;
+    let signature = parse.signature;
+    match answer {
+        CommandAnswer::Block(_) => MockAnswer {
+            result: MockResult::Done,
+            signature: signature,
+        },
+        CommandAnswer::Refused(error) => MockAnswer {
+            result: MockResult::Refused(MockTransportError::CommandBlockError(error)),
+            signature: signature,
+        },
+    }
+}
+
+fn refuse_block(reset: LastReset, parse: CommandParse) -> Outcome
+    ensures { λ r. ⌜ r ≡ blockRefused reset parse ⌝ }
+{
+    Outcome {
+        answer: block_answer(parse),
+        session: Session {
+            current_command: CommandState::None,
+            last_reset: reset,
+        },
+        effect: Effect::Nothing,
+    }
+}
+
+fn start_command(reset: LastReset, sectors: usize, data: &[u8]) -> Outcome
+    ensures { λ r. ⌜ OutcomeMeets r (startTurn (readCommand (now («data» .entry))) reset sectors) ⌝ }
+{
+    let parse = CommandBlock::from_bytes(data);
+    let answer = parse.answer;
+    let CommandAnswer::Block(command) = answer else {
+        return refuse_block(reset, parse);
+    };
+    if command.transfer_length == 0 {
+        return handle_zero_length_command(reset, command, sectors);
+    }
+    settle(CommandState::IO(command), reset, Effect::Nothing)
+}
+
+fn write_io(reset: LastReset, command: CommandBlock, sectors: usize, actual: usize) -> Outcome
+    ensures { λ r. ⌜ OutcomeMeets r (writeIoTurn reset command sectors actual) ⌝ }
+{
+    let direction = command.flags;
+    let Direction::Out = direction else {
+        return refuse(reset, MockTransportError::UnexpectedWrite);
+    };
+    if !has_code(command, CommandCode::WriteLBA) {
+        return refuse(reset, MockTransportError::UnexpectedWrite);
+    }
+    sector_io(reset, command, Direction::Out, sectors, actual)
+}
+
+pub fn write_outcome(session: Session, sectors: usize, data: &[u8]) -> Outcome
+    ensures { λ r. ⌜ OutcomeMeets r (writeTurn session sectors (now («data» .entry))) ⌝ }
+{
+    let reset = session.last_reset;
+    let state = session.current_command;
+    match state {
+        CommandState::None => start_command(reset, sectors, data),
+        CommandState::IO(command) => write_io(reset, command, sectors, data.len()),
+        CommandState::Status(_) => refuse(reset, MockTransportError::UnexpectedWrite),
+    }
+}

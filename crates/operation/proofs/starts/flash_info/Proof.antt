@@ -1,0 +1,10 @@
+-- `operation::flash_info` meets its contract: a fresh operation of its kind with its command. Assumes nothing.
+use borrow.Author.Needs.{needs}
+use Rattle.operation.proofs.starts.flash_info.Statement.{statement}
+use Rattle.operation.proofs.starts.flash_info.Tie as tie
+
+returns : tie.Need-returns
+returns c = cc
+
+pub flash-info-spec : {M : Type 1} → statement M
+flash-info-spec = tie.close (tie.spec (λ c κs. search needs) (λ c κs. search needs) returns)

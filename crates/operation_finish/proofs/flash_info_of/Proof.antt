@@ -1,0 +1,10 @@
+-- `finish::flash_info_of` meets its contract: the first bytes of the reply stand beside blanks. Assumes nothing.
+use borrow.Author.Needs.{needs}
+use Rattle.operation_finish.proofs.flash_info_of.Statement.{statement}
+use Rattle.operation_finish.proofs.flash_info_of.Tie as tie
+
+returns : tie.Need-returns
+returns c = rw (c .blank .ensures, c .before .before .first-of .ensures)
+
+pub flash-info-of-spec : {M : Type 1} → statement M
+flash-info-of-spec = tie.close (tie.spec (λ c. search needs) (λ c κs. search needs) (λ c κs. search needs) returns)

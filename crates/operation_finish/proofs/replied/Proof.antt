@@ -1,0 +1,10 @@
+-- `finish::replied` meets its contract: the reply stands beside blanks. Assumes nothing.
+use borrow.Author.Needs.{needs}
+use Rattle.operation_finish.proofs.replied.Statement.{statement}
+use Rattle.operation_finish.proofs.replied.Tie as tie
+
+returns : tie.Need-returns
+returns c = rw (c .blank .ensures)
+
+pub replied-spec : {M : Type 1} → statement M
+replied-spec = tie.close (tie.spec (λ c κs. search needs) returns)

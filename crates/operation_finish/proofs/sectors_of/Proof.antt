@@ -1,0 +1,17 @@
+-- `finish::sectors_of` meets its contract: 14 where the residue is above the length, else what was moved. Assumes nothing.
+use mathlib.Core.Path.{refl}
+use borrow.Author.Needs.{needs}
+use Rattle.operation_finish.specs.Reply.{finishTold, replyGiven, besideOf, besideReply}
+use Rattle.operation_finish.proofs.Cases.{refused-14, sectors-14, sectors-moved}
+use Rattle.operation_finish.proofs.sectors_of.Statement.{statement}
+use Rattle.operation_finish.proofs.sectors_of.Tie as tie
+
+returns : tie.Need-returns
+returns c = rw (c .failed .ensures, sectors-14 _ _ (c .before .if1 .taken)) refused-14
+
+returns-2 : tie.Need-returns-2
+unfolding finishTold replyGiven besideOf besideReply
+returns-2 c = rw (c .replied .ensures, sectors-moved _ _ (c .before .if1 .left)) (record { tells = refl; beside = refl })
+
+pub sectors-of-spec : {M : Type 1} → statement M
+sectors-of-spec = tie.close (tie.spec (λ c κs. search needs) returns (λ c κs. search needs) returns-2)

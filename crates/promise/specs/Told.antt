@@ -1,0 +1,18 @@
+-- What an answer tells, in document 01's terms.
+use Prim.Native.Nat.{ℕ}
+use mathlib.Core.List.{List}
+
+-- a value, which is number 0, or the document's number of a refusal with its values
+pub data Told (A : Type 0) : Type 0 where
+  given : A → Told A
+  refused : ℕ → List ℕ → Told A
+
+-- the document's number
+unfoldable pub number : {A : Type 0} → Told A → ℕ
+number (given a) = 0
+number (refused n vs) = n
+
+-- what is told once the value is known: a refusal is passed on
+unfoldable pub andThen : {A B : Type 0} → Told A → (A → Told B) → Told B
+andThen (given a) f = f a
+andThen (refused n vs) f = refused n vs

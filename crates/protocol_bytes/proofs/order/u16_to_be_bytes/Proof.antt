@@ -1,0 +1,19 @@
+-- `block::order::u16_to_be_bytes` meets its contract: the bytes with the lowest first, the other way round. Assumes nothing.
+use mathlib.Core.Path.{refl}
+use borrow.Author.Needs.{needs}
+use Rattle.promise.specs.Bytes.{lowFirst, highFirst}
+use Rattle.protocol_bytes.proofs.order.u16_to_be_bytes.Statement.{statement}
+use Rattle.protocol_bytes.proofs.order.u16_to_be_bytes.Tie as tie
+
+returns : tie.Need-returns
+unfolding lowFirst highFirst
+returns c = rw (c .u16-to-le-bytes .ensures) refl
+
+pub u16-to-be-bytes-spec : {M : Type 1} → statement M
+u16-to-be-bytes-spec =
+    tie.close
+    (tie.spec
+    (λ c κs. search needs)
+    (λ c. search needs)
+    (λ c. search needs)
+    returns)

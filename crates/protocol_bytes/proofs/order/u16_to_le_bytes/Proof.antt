@@ -1,0 +1,13 @@
+-- `block::order::u16_to_le_bytes` meets its contract: its bytes are what the definition computes. Assumes nothing.
+use mathlib.Core.Path.{refl}
+use borrow.Author.Needs.{needs}
+use Rattle.promise.specs.Bytes.{lowFirst}
+use Rattle.protocol_bytes.proofs.order.u16_to_le_bytes.Statement.{statement}
+use Rattle.protocol_bytes.proofs.order.u16_to_le_bytes.Tie as tie
+
+returns : tie.Need-returns
+unfolding lowFirst
+returns c = refl
+
+pub u16-to-le-bytes-spec : {M : Type 1} → statement M
+u16-to-le-bytes-spec = tie.close (tie.spec (λ c. search needs) (λ c. search needs) returns)

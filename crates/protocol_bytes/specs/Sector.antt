@@ -1,0 +1,5 @@
+-- The size of a sector.
+use Prim.Native.Nat.{ℕ}
+
+abbrev pub sectorSize : ℕ
+sectorSize = 512

@@ -1,0 +1,123 @@
+-- What the upload is for: any cut of any image gives the same transfers as the whole image, and they are the upload's bytes.
+use Prim.Native.Nat.{ℕ, _+_, _/_, _%_, _<_, _≤_}
+use mathlib.Core.Path.{_≡_, refl, ap, sym, _∙_}
+use mathlib.Core.Bool.{Bool}
+use mathlib.Core.List.{List, [], _∷_, _++_, map, flatten}
+use native.Mathlib.Nat.{zero-add}
+use native.Mathlib.Omega.{arith}
+use lib.ListN.{length, replicate, length-map, length-append, length-replicate}
+use native.Mathlib.Decide.{ℕ-discrete}
+use borrow.Author.Tests.{le-ltb, ne-eqb}
+use Rattle.promise.specs.Rules.{unless}
+use Rattle.promise.specs.Told.{given}
+use Rattle.crc.specs.Check.{start}
+use Rattle.maskrom.specs.declared.WholeUpload.{WholeUpload}
+use Rattle.maskrom_transfer.specs.Moves.{blockSize, register}
+use Rattle.maskrom.specs.Answers.{longest}
+use Rattle.theorems.specs.UploadBytes.{pad, lastZero, uploadBytes, cut}
+use Rattle.promise.specs.Does.{does, said, after}
+use Rattle.maskrom.specs.PartWise.{fresh}
+use Rattle.maskrom.specs.Whole.{freshWhole, startStep, wholeStep}
+use Rattle.theorems.specs.PartDriver.{Transfer, transfer, ended, unending, onStart, driveParts, driveWhole, transfersOf}
+use Rattle.theorems.proofs.CutIntoTransfers.{cut-many, cut-sizes, cut-joins}
+use Rattle.theorems.proofs.BehindTheImage.{ending, upload-ending, length-ending}
+use Rattle.theorems.proofs.StepsToFinish.{Sends, enough, needed}
+use Rattle.theorems.proofs.WholeSends.{image-sends}
+use Rattle.theorems.proofs.PartsSend.{left, parts-end}
+
+-- DEMAND 3. An image of at most 4,294,967,295 bytes, cut into parts in any way, empty ones too: handed over in order to a fresh upload, with an output of a block
+-- at least and re-handing what was not taken, then closed and stepped to the finish. No call is refused, the driving ends, and the transfers are those of the
+-- upload's bytes.
+pub any-cut : (area : ℕ) (checked : Bool) (image : List ℕ) (parts : List (List ℕ)) (out : List ℕ)
+    → flatten parts ≡ image → length image ≤ longest → blockSize ≤ length out
+    → driveParts area checked parts out ≡ ended (transfersOf area checked image)
+unfolding driveParts transfersOf left
+any-cut area checked image parts out e l h =
+    let n : 0 + length (flatten parts) ≤ longest = omega (arith, ap length e) in
+    parts-end parts (fresh area checked) out (record { writes-on = refl; block-long = length-replicate {A = ℕ} 4096 0 }) h n
+    ∙ ap (λ (l : List ℕ). ended (map (transfer area) (cut l)))
+    (ap (λ (l : List ℕ). l ++ ending checked (register checked start l) (0 + length l)) e
+    ∙ ap (λ (k : ℕ). image ++ ending checked (register checked start image) k) (zero-add (length image))
+    ∙ sym (upload-ending checked image))
+
+-- the length of an upload, T, by the image's
+unfoldable pub total : ℕ → ℕ
+total n = n + (length (pad n) + (2 + length (lastZero n)))
+
+pub upload-length : (checked : Bool) (image : List ℕ) → length (uploadBytes checked image) ≡ total (length image)
+unfolding total
+upload-length checked image =
+    ap length (upload-ending checked image)
+    ∙ length-append image (ending checked (register checked start image) (length image))
+    ∙ ap (λ (k : ℕ). length image + k) (length-ending checked (register checked start image) (length image))
+
+-- "floor(T/4,096)+1 transfers"
+pub how-many : (area : ℕ) (checked : Bool) (image : List ℕ) → length (transfersOf area checked image) ≡ total (length image) / blockSize + 1
+unfolding transfersOf
+how-many area checked image =
+    length-map (cut (uploadBytes checked image)) (transfer area) ∙ cut-many (uploadBytes checked image)
+    ∙ ap (λ (k : ℕ). k / 4096 + 1) (upload-length checked image)
+
+-- a whole upload in its first state
+started : (area : ℕ) (checked : Bool) (image : List ℕ) → length image ≤ longest
+    → startStep area checked image ≡ given (does tt [] (freshWhole area checked (length image)))
+unfolding startStep unless
+started area checked image l = rw (le-ltb longest (length image) l)
+
+-- a whole upload sends the transfers of its image
+pub whole-start : (area : ℕ) (checked : Bool) (image : List ℕ)
+    → Sends (λ (u : WholeUpload) (room : ℕ). wholeStep u image room) (freshWhole area checked (length image)) (transfersOf area checked image)
+unfolding transfersOf
+whole-start area checked image =
+    rw (upload-ending checked image)
+    (image-sends image (length image / 4096) (freshWhole area checked (length image)) image refl refl refl (zero-add (length image)) refl refl)
+
+-- THE WHOLE UPLOAD gives the same list, by floor(T/4,096)+2 steps ..
+pub whole-image : (area : ℕ) (checked : Bool) (image out : List ℕ) → length image ≤ longest → blockSize ≤ length out
+    → driveWhole (total (length image) / blockSize + 2) area checked image out ≡ ended (transfersOf area checked image)
+unfolding driveWhole onStart said after
+whole-image area checked image out l h =
+    rw (started area checked image l)
+    (enough (λ (u : WholeUpload) (room : ℕ). wholeStep u image room) (total (length image) / 4096 + 2) (freshWhole area checked (length image)) (transfersOf area checked image) out
+    (whole-start area checked image) h (omega (arith, how-many area checked image)))
+
+-- .. and no fewer
+pub no-fewer : (area : ℕ) (checked : Bool) (image out : List ℕ) (k : ℕ) → length image ≤ longest → blockSize ≤ length out
+    → k < total (length image) / blockSize + 2 → driveWhole k area checked image out ≡ unending
+unfolding driveWhole onStart said after
+no-fewer area checked image out k l h f =
+    rw (started area checked image l)
+    (needed (λ (u : WholeUpload) (room : ℕ). wholeStep u image room) k (freshWhole area checked (length image)) (transfersOf area checked image) out
+    (whole-start area checked image) h (omega (arith, how-many area checked image)))
+
+-- whichever way it was handed over
+pub same-list : (area : ℕ) (checked : Bool) (image : List ℕ) (parts : List (List ℕ)) (out out′ : List ℕ)
+    → flatten parts ≡ image → length image ≤ longest → blockSize ≤ length out → blockSize ≤ length out′
+    → driveParts area checked parts out ≡ driveWhole (total (length image) / blockSize + 2) area checked image out′
+same-list area checked image parts out out′ e l h h′ = any-cut area checked image parts out e l h ∙ sym (whole-image area checked image out′ l h′)
+
+bytes-of : (area : ℕ) (ls : List (List ℕ)) → map (λ (t : Transfer). t .bytes) (map (transfer area) ls) ≡ ls
+bytes-of area [] = refl
+bytes-of area (l ∷ ls) = ap (λ (r : List (List ℕ)). l ∷ r) (bytes-of area ls)
+
+-- the list is the upload's bytes ..
+pub nothing-lost : (area : ℕ) (checked : Bool) (image : List ℕ)
+    → flatten (map (λ (t : Transfer). t .bytes) (transfersOf area checked image)) ≡ uploadBytes checked image
+unfolding transfersOf
+nothing-lost area checked image = ap flatten (bytes-of area (cut (uploadBytes checked image))) ∙ cut-joins (uploadBytes checked image)
+
+-- .. each transfer 4,096 long but the last
+pub sizes : (checked : Bool) (image : List ℕ)
+    → map length (cut (uploadBytes checked image)) ≡ replicate (total (length image) / blockSize) blockSize ++ (total (length image) % blockSize ∷ [])
+sizes checked image =
+    cut-sizes (uploadBytes checked image) ∙ ap (λ (k : ℕ). replicate (k / 4096) 4096 ++ (k % 4096 ∷ [])) (upload-length checked image)
+
+total-by : (n : ℕ) → Dec (n % 4096 ≡ 4095) → Dec (n % 4096 ≡ 4094) → 0 < total n % 4096
+unfolding total pad lastZero
+total-by n (yes e) d = rw (e) (omega arith)
+total-by n (no e) (yes d) = rw (d) (omega arith)
+total-by n (no e) (no d) = rw (ne-eqb (n % 4096) 4095 e, ne-eqb (n % 4096) 4094 d) (omega arith)
+
+-- .. which is 1 to 4,095 long
+pub last-size : (n : ℕ) → (0 < total n % blockSize) × (total n % blockSize < blockSize)
+last-size n = (total-by n (ℕ-discrete (n % 4096) 4095) (ℕ-discrete (n % 4096) 4094), omega arith)

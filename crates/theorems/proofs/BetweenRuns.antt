@@ -1,0 +1,46 @@
+-- What holds of the device between one run and the next: it has no transaction, and what it is lent is as long as ever.
+use Prim.Native.Nat.{ℕ}
+use mathlib.Core.Path.{_≡_, ap, sym, _∙_}
+use mathlib.Core.Bool.{Bool}
+use mathlib.Core.List.{List}
+use lib.ListN.{length}
+use Rattle.promise.specs.Told.{given}
+use Rattle.operation.specs.declared.steps.UsbOperation.{UsbOperation}
+use Rattle.mock_base.specs.Flash.{flashSectors}
+use Rattle.mock_table.specs.declared.session.CommandState.the-variants.{None}
+use Rattle.mock.specs.declared.device.MockState.{MockState}
+use Rattle.run_turn.specs.Turn.{usbState}
+use Rattle.run_operation.specs.Run.{usbRun, wholeBudget}
+use Rattle.theorems.proofs.UploadTransfers.{uploadRun}
+use Rattle.theorems.proofs.UploadKeeps.{upload-keeps}
+use Rattle.theorems.proofs.NoTransactionLeft.{whole-idle}
+
+-- a device with no transaction, lent a flash of so many sectors and a store of its own length
+pub record Standing (device : MockState) (flash : List ℕ) (store sectors : ℕ) : Type 0 where
+  pub legal : flashSectors (length flash) ≡ given sectors
+  pub stored : store ≡ device .«store_length»
+  pub none : device .«current_command» ≡ None
+
+module _ (device : MockState) (flash : List ℕ) (sectors : ℕ) where
+  -- after one whole operation, whatever it was and ended in
+  pub operation-stands : (op : UsbOperation) (bytes : List ℕ) (store : ℕ) → Standing device flash store sectors
+      → Standing (usbRun (usbState op device flash bytes) store wholeBudget .state .device) (usbRun (usbState op device flash bytes) store wholeBudget .state .flash) store sectors
+  operation-stands op bytes store stands =
+      let idle = whole-idle (usbState op device flash bytes) store (stands .none) in
+      record {
+        legal = ap flashSectors (idle .long) ∙ stands .legal;
+        stored = stands .stored ∙ sym (ap (λ (d : MockState). d .«store_length») (idle .same));
+        none = ap (λ (d : MockState). d .«current_command») (idle .same);
+      }
+
+  -- after an upload, whatever it ended in
+  pub upload-stands : (area : ℕ) (checked : Bool) (image store : List ℕ) (budget : ℕ) → Standing device flash (length store) sectors
+      → Standing (uploadRun area checked image (length flash) device store budget .state .device) flash
+      (length (uploadRun area checked image (length flash) device store budget .state .store)) sectors
+  upload-stands area checked image store budget stands =
+      let keeps = upload-keeps area checked image (length flash) device store budget in
+      record {
+        legal = stands .legal;
+        stored = keeps .long ∙ stands .stored ∙ sym (ap (λ (d : MockState). d .«store_length») (keeps .same));
+        none = ap (λ (d : MockState). d .«current_command») (keeps .same) ∙ stands .none;
+      }

@@ -1,0 +1,91 @@
+-- An operation from its start, at a device with no transaction: its command is taken as the block that it is, and the table's turn for it decides how the run goes on.
+use Prim.Native.Nat.{ℕ, _≤_}
+use mathlib.Core.Path.{_≡_, refl, ap, sym, _∙_}
+use mathlib.Core.List.{List}
+use native.Mathlib.Omega.{arith}
+use lib.ListN.{length, replicate}
+use borrow.Author.Tests.{eq-eqb, ne-eqb}
+use Rattle.promise.specs.Told.{Told, given, refused}
+use Rattle.promise.specs.Outcome.{orRefuse}
+use Rattle.protocol.specs.declared.CommandBlock.{CommandBlock}
+use Rattle.protocol.proofs.Trips.{BlockFits, reads-back}
+use Rattle.operation_finish.specs.Reply.{Reply}
+use Rattle.operation_finish.specs.Finish.{replyOf}
+use Rattle.operation_finish.specs.declared.Kind.{Kind}
+use Rattle.operation.specs.declared.steps.Operation.the-variants as operation
+use Rattle.operation.specs.Record.{fresh, afterCommand, commandOut, commanded}
+use Rattle.operation.specs.Step.{commandStep, stepOf}
+use Rattle.mock_base.specs.Flash.{flashSectors}
+use Rattle.mock_table.specs.Turn.{Turn, session, done}
+use Rattle.mock_table.specs.Table.{startTurn, writeRow}
+use Rattle.mock_table.specs.declared.session.CommandState.the-variants.{None, IO, Status}
+use Rattle.mock_table.specs.declared.session.LastReset.{LastReset}
+use Rattle.mock_table.specs.declared.outcome.Effect.{Effect}
+use Rattle.mock_table.specs.declared.outcome.Effect.the-variants.{Nothing}
+use Rattle.mock_effects.specs.Effects.{flashAfter}
+use Rattle.mock.specs.declared.device.MockState.{MockState}
+use Rattle.mock.specs.Device.{Call, sessionOf, withSession, writeBulk}
+use Rattle.mock_effects.proofs.Frames.{write-long}
+use Rattle.promise.specs.Run.{tells, Ran, follow, runs}
+use Rattle.run_turn.specs.Turn.{UsbState, usbState, onward, wrote, transfers, usbTurn}
+use Rattle.run_operation.specs.Run.{sectorData, usbRun, wholeBudget}
+use Rattle.run_operation.proofs.Checks.{unrefused}
+use Rattle.theorems.proofs.BetweenRuns.{Standing}
+use Rattle.theorems.proofs.CallsByTurn.{asCall, writes-as}
+use Rattle.theorems.proofs.FromStatus.{answered}
+
+-- one whole operation from its start
+abbrev pub operationRun : Kind → CommandBlock → MockState → List ℕ → List ℕ → ℕ → Ran Reply UsbState
+operationRun k c device flash bytes store = usbRun (usbState (fresh k c) device flash bytes) store wholeBudget
+
+-- the state once its command is out and the device awaits its data
+abbrev pub awaiting : Kind → CommandBlock → MockState → List ℕ → List ℕ → UsbState
+awaiting k c device flash bytes = usbState (commanded (fresh k c)) (withSession device (session (IO c) (device .«last_reset»))) flash bytes
+
+-- a flash that a write leaves is as long as it was
+pub long-left : (device : MockState) (flash lent : List ℕ) (t : Turn) (leaves : List ℕ) → writeBulk device flash lent ≡ asCall device t leaves → length leaves ≡ length flash
+unfolding writeBulk
+long-left device flash lent t leaves e = ap (λ (c : Call). length (c .leaves)) (sym e) ∙ write-long (sessionOf device) flash lent
+
+module _ (k : Kind) (c : CommandBlock) (device : MockState) (flash bytes : List ℕ) (store sectors : ℕ) (stands : Standing device flash store sectors)
+    (fits : BlockFits c) (enough : sectorData k (c .«transfer_length») ≤ length bytes) where
+  -- the state once the command is out, the device's turn being t
+  abbrev commanded-by : Turn → UsbState
+  commanded-by t = usbState (commanded (fresh k c)) (withSession device (t .next)) (flashAfter (t .effect) (commandOut (fresh k c)) flash) bytes
+
+  module _ (t : Turn) (first : startTurn (given c) (device .«last_reset») sectors ≡ t) where
+    taken : writeBulk device flash (commandOut (fresh k c)) ≡ asCall device t (flashAfter (t .effect) (commandOut (fresh k c)) flash)
+    unfolding writeRow
+    taken =
+        writes-as device flash (commandOut (fresh k c)) sectors None t (stands .legal) (stands .none)
+        (ap (λ (x : Told CommandBlock). startTurn x (device .«last_reset») sectors) (reads-back c (replicate 7 0) fits (omega arith)) ∙ first)
+
+    begun : operationRun k c device flash bytes store ≡ follow (onward (t .told) (commanded-by t)) (λ next. runs usbTurn 3 next)
+    unfolding runs usbTurn stepOf commandStep orRefuse transfers
+    begun =
+        unrefused (usbState (fresh k c) device flash bytes) store wholeBudget sectors (stands .legal) (stands .stored) enough
+        ∙ ap (λ (w : Call). follow (wrote (usbState (commanded (fresh k c)) device flash bytes) w) (λ next. runs usbTurn 3 next)) taken
+
+    -- a command that is refused at once
+    pub refused-at-once : (number : ℕ) (values : List ℕ) → t .told ≡ refused number values → operationRun k c device flash bytes store .end ≡ tells (refused number values)
+    unfolding follow onward
+    refused-at-once number values e =
+        ap (λ (r : Ran Reply UsbState). r .end) begun ∙ ap (λ (x : Told Unit). follow (onward x (commanded-by t)) (λ next. runs usbTurn 3 next) .end) e
+
+  -- a command with no data that is done at once
+  pub done-at-once : (reset : LastReset) (effect : Effect) → c .«transfer_length» ≡ 0
+      → startTurn (given c) (device .«last_reset») sectors ≡ done (Status c) reset effect
+      → operationRun k c device flash bytes store .end ≡ tells (replyOf k (c .«transfer_length») 0 (replicate 16 0))
+  unfolding follow onward done afterCommand
+  done-at-once reset effect empty first =
+      let t = done (Status c) reset effect in
+      let here : afterCommand (c .«transfer_length») ≡ operation.CommandStatus = rw (eq-eqb (c .«transfer_length») 0 empty) in
+      ap (λ (r : Ran Reply UsbState). r .end) (begun t first)
+      ∙ answered (commanded-by t) c sectors (ap flashSectors (long-left device flash (commandOut (fresh k c)) t (flashAfter effect (commandOut (fresh k c)) flash) (taken t first)) ∙ stands .legal)
+      here refl refl (fits .tag) 1
+
+  -- one with data is awaited
+  pub awaits : (c .«transfer_length» ≡ 0 → ⊥) → operationRun k c device flash bytes store .end ≡ runs usbTurn 3 (awaiting k c device flash bytes) .end
+  unfolding follow onward done startTurn flashAfter
+  awaits some =
+      ap (λ (r : Ran Reply UsbState). r .end) (begun (done (IO c) (device .«last_reset») Nothing) (rw (ne-eqb (c .«transfer_length») 0 some)))

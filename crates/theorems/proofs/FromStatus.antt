@@ -1,0 +1,97 @@
+-- An operation at its status, at a device that awaits it: the status is success with the command's tag, and so the finish gives the reply.
+use Prim.Native.Nat.{ℕ, suc, _<_, _^_}
+use mathlib.Core.Path.{_≡_, refl, ap, _∙_}
+use mathlib.Core.List.{List, [], _++_, append-assoc}
+use native.Mathlib.Omega.{arith}
+use lib.ListN.{length, drop, replicate}
+use Rattle.promise.specs.Told.{Told, given, refused, andThen}
+use Rattle.promise.specs.Bytes.{front, highFirst, lowFirst}
+use Rattle.protocol_codes.specs.declared.Status.the-variants.{SUCCESS}
+use Rattle.promise.specs.Outcome.{orRefuse}
+use Rattle.protocol_status.specs.StatusBytes.{statusBytes, readStatus}
+use Rattle.protocol_status.specs.declared.report.CommandStatus.{CommandStatus}
+use Rattle.protocol_status.proofs.Trips.{reads-back}
+use Rattle.protocol.specs.declared.CommandBlock.{CommandBlock}
+use Rattle.operation_finish.specs.Reply.{Reply}
+use Rattle.operation_finish.specs.Finish.{finishes, replyOf}
+use Rattle.operation_finish.proofs.Cases.{finish-reply}
+use Rattle.operation.specs.declared.steps.Operation.the-variants as operation
+use Rattle.operation.specs.declared.steps.Asked.the-variants as asked
+use Rattle.operation.specs.declared.steps.UsbOperation.{UsbOperation}
+use Rattle.operation.specs.Record.{transferLength, turned, withStatus}
+use Rattle.operation.specs.Step.{Step, finishedTold, statusStep, finishStep}
+use Rattle.operation.specs.Give.{Give, asksFor, owed, nothingAsked, usbGive}
+use Rattle.operation.specs.Give as giving
+use Rattle.operation.proofs.Laws.{at-status, at-finish}
+use Rattle.operation.proofs.Cases.{give-taken}
+use Rattle.mock_base.specs.Flash.{flashSectors}
+use Rattle.mock_table.specs.Turn.{session, done, replySize}
+use Rattle.mock_table.specs.Table.{statusTurn, readRow}
+use Rattle.mock_table.specs.declared.session.CommandState.the-variants.{None, Status}
+use Rattle.mock_table.specs.declared.outcome.Effect.the-variants as effect
+use Rattle.mock_table.specs.declared.outcome.ReplyKind.the-variants as reply
+use Rattle.mock_effects.specs.Effects.{replyBytes, bufferAfter}
+use Rattle.mock.specs.Device.{Call, withSession, readBulk}
+use Rattle.promise.specs.Run.{ends, goes, tells, follow, runs}
+use Rattle.run_turn.specs.Turn.{UsbState, usbState, bufferFor, landed, gives, received, got, transfers, after, usbTurn}
+use Rattle.theorems.proofs.CallsByTurn.{reads-as}
+
+-- the finish is the last turn, whatever it tells
+finish-ends : (t : Told Reply) (s : UsbState) → transfers (finishedTold t) [] s ≡ ends t s
+unfolding transfers finishedTold andThen
+finish-ends (given r) s = refl
+finish-ends (refused number values) s = refl
+
+finish-turn : (s : UsbState) → s .operation .next ≡ operation.Finish
+    → usbTurn s ≡ ends (finishes (s .operation .kind) (s .operation .command .tag) (transferLength (s .operation)) (s .operation .«command_bytes») (s .operation .«data»))
+    (usbState (turned (s .operation) operation.CommandBlock asked.Nothing) (s .device) (s .flash) (s .«data»))
+unfolding usbTurn finishStep
+finish-turn s e =
+    let op = s .operation in
+    ap (λ (x : Step). after x s) (at-finish op (length (s .«data»)) 31 e)
+    ∙ finish-ends (finishes (op .kind) (op .command .tag) (transferLength op) (op .«command_bytes») (op .«data»))
+    (usbState (turned op operation.CommandBlock asked.Nothing) (s .device) (s .flash) (s .«data»))
+
+module _ (s : UsbState) (c : CommandBlock) (sectors : ℕ) (legal : flashSectors (length (s .flash)) ≡ given sectors) (here : s .operation .next ≡ operation.CommandStatus)
+    (waits : s .device .«current_command» ≡ Status c) (tag : c .tag ≡ s .operation .command .tag) (fits : c .tag < 256 ^ 4) where
+  abbrev report : CommandStatus
+  report = record { tag = c .tag; residue = 0; status = SUCCESS }
+
+  -- what the device gives, and the operation that was given it
+  abbrev given-bytes : List ℕ
+  given-bytes = front (statusBytes report) (replicate 13 0)
+
+  abbrev asking : UsbOperation
+  asking = turned (s .operation) operation.Finish asked.Status
+
+  status-read : readBulk (s .device) (s .flash) (replicate 13 0)
+      ≡ record { told = given tt; next = withSession (s .device) (session None (s .device .«last_reset»)); leaves = given-bytes }
+  unfolding readRow statusTurn orRefuse replySize done bufferAfter replyBytes
+  status-read =
+      reads-as (s .device) (s .flash) (replicate 13 0) sectors (Status c) (done None (s .device .«last_reset») (effect.Reply (reply.Status (c .tag)))) legal waits refl
+
+  status-given : usbGive asking given-bytes 0 .next ≡ withStatus asking (front given-bytes (s .operation .«command_bytes»))
+  unfolding giving.received nothingAsked asksFor owed statusBytes highFirst lowFirst
+  status-given = ap (λ (g : Give). g .next) (give-taken asked.Status asking given-bytes 0 refl (omega arith) (omega arith))
+
+  status-turn : usbTurn s
+      ≡ goes (usbState (withStatus asking (front given-bytes (s .operation .«command_bytes»))) (withSession (s .device) (session None (s .device .«last_reset»))) (s .flash) (s .«data»))
+  unfolding usbTurn statusStep transfers bufferFor landed received gives
+  status-turn =
+      let now = usbState asking (s .device) (s .flash) (s .«data») in
+      ap (λ (x : Step). after x s) (at-status (s .operation) (length (s .«data»)) 31 here)
+      ∙ ap (λ (x : Call). got asked.Status now x) status-read
+      ∙ ap (λ (x : UsbOperation). goes (usbState x (withSession (s .device) (session None (s .device .«last_reset»))) (s .flash) (s .«data»))) status-given
+
+  -- ANSWERED. Two more turns, and the end is the reply of an operation that moved all of its data
+  pub answered : (budget : ℕ) → runs usbTurn (suc (suc budget)) s .end
+      ≡ tells (replyOf (s .operation .kind) (transferLength (s .operation)) 0 (s .operation .«data»))
+  unfolding runs follow
+  answered budget =
+      let op = s .operation in
+      let status = front given-bytes (op .«command_bytes») in
+      let next = usbState (withStatus asking status) (withSession (s .device) (session None (s .device .«last_reset»))) (s .flash) (s .«data») in
+      let behind : List ℕ = drop (length (statusBytes report)) (replicate 13 0) in
+      let rest = drop (length given-bytes) (op .«command_bytes») in
+      let read = ap readStatus (append-assoc (statusBytes report) behind rest) ∙ reads-back report (behind ++ rest) (record { tag = fits; residue = omega arith }) in
+      rw (status-turn, finish-turn next refl) (ap tells (finish-reply (op .kind) (op .command .tag) (transferLength op) status (op .«data») report read refl tag))

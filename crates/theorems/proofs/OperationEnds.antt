@@ -1,0 +1,229 @@
+-- What each operation ends in from its start, at a device with no transaction that is lent a flash of whole sectors and its store: a reply, 53, 54 or 57.
+use Prim.Native.Nat.{ℕ, suc, _*_, _/_, _<_, _≤_, _^_, min}
+use mathlib.Core.Path.{_≡_, refl, ap, sym, _∙_}
+use mathlib.Core.Bool.{true, false}
+use mathlib.Core.List.{List, [], _∷_, _++_}
+use native.Mathlib.Nat.{sub-zero}
+use native.Mathlib.Omega.{arith}
+use lib.ListN.{length, take, drop, replicate}
+use lib.Seq.{take-at}
+use borrow.Author.Tests.{eq-eqb}
+use Rattle.promise.specs.Told.{Told, given, refused}
+use Rattle.promise.specs.Rules.{pick}
+use Rattle.promise.specs.Bytes.{lowFirst}
+use Rattle.promise.specs.Outcome.{orRefuse}
+use Rattle.promise.proofs.Outcome.{by-test}
+use Rattle.protocol_codes.specs.Numbers.{codeNumber}
+use Rattle.protocol_codes.specs.declared.CommandCode.{CommandCode}
+use Rattle.protocol_codes.specs.declared.CommandCode.the-variants.{EraseLBA, EraseForce, ReadFlashId, ReadFlashInfo, ReadChipInfo, ReadCapability, ReadLBA, WriteLBA, GetStorageMedia, SwitchStorage}
+use Rattle.protocol_codes.specs.declared.Direction.{Direction}
+use Rattle.protocol_codes.specs.declared.Direction.the-variants.{In, Out}
+use Rattle.protocol_codes.specs.declared.ResetOpcode.{ResetOpcode}
+use Rattle.protocol_codes.specs.declared.StorageIndex.{StorageIndex}
+use Rattle.protocol_codes.proofs.Back.{reset-back}
+use Rattle.protocol_bytes.specs.Sector.{sectorSize}
+use Rattle.protocol.specs.declared.CommandBlock.{CommandBlock}
+use Rattle.protocol.specs.Commands.{replyCommand, opcodeCommand, sectorCommand, chipInfoCommand, flashIdCommand, flashInfoCommand, capabilityCommand, storageCommand, eraseLbaCommand, eraseForceCommand, readLbaCommand, writeLbaCommand, resetCommand, switchCommand}
+use Rattle.protocol.proofs.Trips.{BlockFits}
+use Rattle.operation_finish.specs.Reply.{Reply, chipInfo, flashId, flashInfo, capability, nothing, moved}
+use Rattle.operation_finish.specs.Finish.{sectorReply, replyOf}
+use Rattle.operation_finish.proofs.Cases.{sectors-moved}
+use Rattle.operation_finish.specs.declared.Kind.{Kind}
+use Rattle.operation_finish.specs.declared.Kind.the-variants as kind
+use Rattle.operation.specs.declared.steps.IOBytes.the-variants as io
+use Rattle.operation.specs.Record.{ioOf}
+use Rattle.mock_base.specs.Flash.{fitsIn}
+use Rattle.mock_table.specs.Turn.{refuses, done, hasCode, isErase, isIn, isOut, movedBy, replySize}
+use Rattle.mock_table.specs.Table.{rangeOf, sectorTurn, storedReset, zeroLengthTurn, startTurn, writeIoTurn, replyTurn, codeTurn, readIoTurn}
+use Rattle.mock_table.specs.declared.session.CommandState.the-variants.{Status}
+use Rattle.mock_table.specs.declared.session.LastReset.{LastReset}
+use Rattle.mock_table.specs.declared.session.LastReset.the-variants as reset
+use Rattle.mock_table.specs.declared.outcome.Effect.the-variants as effect
+use Rattle.mock_table.specs.declared.outcome.ReplyKind.{ReplyKind}
+use Rattle.mock_table.specs.declared.outcome.ReplyKind.the-variants as reply
+use Rattle.mock_base.specs.Config.{defaultConfig}
+use Rattle.mock_base.specs.Config as config
+use Rattle.mock_effects.specs.Effects.{replyBytes}
+use Rattle.mock_base.specs.declared.config.MockDeviceConfig.{MockDeviceConfig}
+use Rattle.mock.specs.declared.device.MockState.{MockState}
+use Rattle.promise.specs.Run.{tells}
+use Rattle.run_operation.specs.Run.{sectorData}
+use Rattle.theorems.proofs.BetweenRuns.{Standing}
+use Rattle.theorems.proofs.FromStart.{operationRun, refused-at-once, done-at-once}
+use Rattle.theorems.proofs.FromData.{inband-refused, inband-answered, read-refused, read-answered, write-refused, write-answered}
+
+-- a configuration whose replies are as long as the protocol has them, as the Rust's default is
+pub record Sized (config : MockDeviceConfig) : Type 0 where
+  pub chip : length (config .«chip_info») ≡ 16
+  pub id : length (config .«flash_id») ≡ 5
+  pub capability : length (config .capability) ≡ 8
+  pub extra : length (config .«flash_info_extra») ≡ 5
+
+pub default-sized : Sized defaultConfig
+unfolding defaultConfig
+default-sized = record { chip = refl; id = refl; capability = refl; extra = refl }
+
+-- sectors, by whether the range fits
+module _ (last : LastReset) (c : CommandBlock) (direction : Direction) (sectors : ℕ) where
+  abbrev size : ℕ
+  size = c .«cd_length» * sectorSize
+
+  sector-fits : fitsIn sectors (c .«cd_address») (c .«cd_length») ≡ true → sectorTurn last c direction sectors size ≡ done (Status c) last (movedBy direction (rangeOf c))
+  unfolding sectorTurn orRefuse
+  sector-fits e = rw (e, eq-eqb size size refl)
+
+  sector-out : fitsIn sectors (c .«cd_address») (c .«cd_length») ≡ false → sectorTurn last c direction sectors size ≡ refuses last 57 []
+  unfolding sectorTurn orRefuse
+  sector-out e = rw e
+
+module _ (device : MockState) (flash bytes : List ℕ) (store sectors : ℕ) (stands : Standing device flash store sectors) (tag : ℕ) (small : tag < 256 ^ 4) where
+  -- REPLIES, of n bytes
+  module _ (k : Kind) (n : ℕ) (code : CommandCode) (some : 0 < n) (few : n ≤ 16) (inband : ioOf k ≡ io.Inband) (free : sectorData k n ≡ 0) where
+    reply-fits : BlockFits (replyCommand tag n code)
+    reply-fits = record { tag = small; transfer = omega arith; address = omega arith; count = omega arith }
+
+    whole : min n 16 ≡ n
+    whole = omega arith
+
+    replied : (own : ReplyKind) (wrap : List ℕ → Reply)
+        → readIoTurn (device .«last_reset») (replyCommand tag n code) sectors n ≡ done (Status (replyCommand tag n code)) (device .«last_reset») (effect.Reply own)
+        → ((inband : List ℕ) → replyOf k n 0 inband ≡ given (wrap (take n inband))) → length (replyBytes (device .config) (length flash / sectorSize) own) ≡ n
+        → operationRun k (replyCommand tag n code) device flash bytes store .end ≡ tells (given (wrap (replyBytes (device .config) (length flash / sectorSize) own)))
+    replied own wrap turn gives long =
+        let c = replyCommand tag n code in
+        let own-bytes = replyBytes (device .config) (length flash / sectorSize) own in
+        let behind : List ℕ = drop (length own-bytes) (replicate 16 0) in
+        inband-answered k c device flash bytes store sectors stands reply-fits (omega (arith, free)) (λ e. omega arith) inband own
+        (ap (readIoTurn (device .«last_reset») c sectors) whole ∙ turn) (long ∙ sym whole)
+        ∙ ap tells (gives (own-bytes ++ behind) ∙ ap (λ (l : List ℕ). given (wrap l)) (take-at own-bytes behind n long))
+
+    unreplied : (number : ℕ) (values : List ℕ)
+        → readIoTurn (device .«last_reset») (replyCommand tag n code) sectors n ≡ refuses (device .«last_reset») number values
+        → operationRun k (replyCommand tag n code) device flash bytes store .end ≡ tells (refused number values)
+    unreplied number values turn =
+        let c = replyCommand tag n code in
+        inband-refused k c device flash bytes store sectors stands reply-fits (omega (arith, free)) (λ e. omega arith) inband number values
+        (ap (readIoTurn (device .«last_reset») c sectors) whole ∙ turn)
+
+  module _ (sized : Sized (device .config)) where
+    pub chip-info-ends : operationRun kind.ChipInfo (chipInfoCommand tag) device flash bytes store .end ≡ tells (given (chipInfo (record { 0 = device .config .«chip_info» })))
+    unfolding sectorData readIoTurn codeTurn replyTurn orRefuse hasCode isIn replySize replyBytes replyOf
+    chip-info-ends =
+        replied kind.ChipInfo 16 ReadChipInfo (omega arith) (omega arith) refl refl reply.ChipInfo (λ l. chipInfo (record { 0 = l })) refl (λ l. refl) (sized .chip)
+
+    pub flash-id-ends : operationRun kind.FlashId (flashIdCommand tag) device flash bytes store .end ≡ tells (given (flashId (record { 0 = device .config .«flash_id» })))
+    unfolding sectorData readIoTurn codeTurn replyTurn orRefuse hasCode isIn replySize replyBytes replyOf
+    flash-id-ends =
+        replied kind.FlashId 5 ReadFlashId (omega arith) (omega arith) refl refl reply.FlashId (λ l. flashId (record { 0 = l })) refl (λ l. refl) (sized .id)
+
+    pub flash-info-ends : operationRun kind.FlashInfo (flashInfoCommand tag) device flash bytes store .end
+        ≡ tells (given (flashInfo (record { 0 = config.flashInfo (device .config) (length flash / sectorSize) })))
+    unfolding sectorData readIoTurn codeTurn replyTurn orRefuse hasCode isIn replySize replyBytes replyOf config.flashInfo lowFirst
+    flash-info-ends =
+        replied kind.FlashInfo 11 ReadFlashInfo (omega arith) (omega arith) refl refl reply.FlashInfo (λ l. flashInfo (record { 0 = l })) refl (λ l. refl)
+        (ap (λ (n : ℕ). suc (suc (suc (suc (suc (suc n)))))) (sized .extra))
+
+    pub capability-ends : operationRun kind.Capability (capabilityCommand tag) device flash bytes store .end
+        ≡ tells (given (capability (record { 0 = device .config .capability })))
+    unfolding sectorData readIoTurn codeTurn replyTurn orRefuse hasCode isIn replySize replyBytes replyOf
+    capability-ends =
+        replied kind.Capability 8 ReadCapability (omega arith) (omega arith) refl refl reply.Capability (λ l. capability (record { 0 = l })) refl (λ l. refl) (sized .capability)
+
+  -- the storage's is none that the device has
+  pub storage-ends : operationRun kind.Storage (storageCommand tag) device flash bytes store .end ≡ tells (refused 54 [])
+  unfolding sectorData readIoTurn codeTurn orRefuse hasCode isIn
+  storage-ends = unreplied kind.Storage 4 GetStorageMedia (omega arith) (omega arith) refl refl 54 [] refl
+
+  -- NO DATA: a reset by a known opcode, and the switch of a storage, which the device does not know
+  opcode-fits : (code : CommandCode) (opcode : ℕ) → BlockFits (opcodeCommand tag code opcode)
+  opcode-fits code opcode = record { tag = small; transfer = omega arith; address = omega arith; count = omega arith }
+
+  pub reset-ends : (opcode : ResetOpcode) → operationRun kind.Nothing (resetCommand tag opcode) device flash bytes store .end ≡ tells (given nothing)
+  unfolding sectorData startTurn zeroLengthTurn storedReset isErase hasCode replyOf
+  reset-ends opcode =
+      let c = resetCommand tag opcode in
+      done-at-once kind.Nothing c device flash bytes store sectors stands (opcode-fits (c .«cd_code») (c .«cd_opcode»)) (omega arith) (reset.Some opcode) effect.Nothing refl
+      (ap (λ (t : Told ResetOpcode). storedReset t (device .«last_reset») c) (reset-back opcode))
+
+  unknown-ends : (k : Kind) (c : CommandBlock) → BlockFits c → sectorData k (c .«transfer_length») ≤ length bytes
+      → startTurn (given c) (device .«last_reset») sectors ≡ refuses (device .«last_reset») 53 (codeNumber (c .«cd_code») ∷ [])
+      → operationRun k c device flash bytes store .end ≡ tells (refused 53 (codeNumber (c .«cd_code») ∷ []))
+  unfolding refuses
+  unknown-ends k c fits enough first =
+      let values = codeNumber (c .«cd_code») ∷ [] in
+      refused-at-once k c device flash bytes store sectors stands fits enough (refuses (device .«last_reset») 53 values) first 53 values refl
+
+  pub switch-ends : (index : StorageIndex)
+      → operationRun kind.Nothing (switchCommand tag index) device flash bytes store .end ≡ tells (refused 53 (codeNumber SwitchStorage ∷ []))
+  unfolding sectorData startTurn zeroLengthTurn isErase hasCode
+  switch-ends index =
+      let c = switchCommand tag index in
+      unknown-ends kind.Nothing c (opcode-fits (c .«cd_code») (c .«cd_opcode»)) (omega arith) refl
+
+  -- SECTORS
+  module _ (first count : ℕ) (low : first < 256 ^ 4) (few : count < 256 ^ 2) where
+    sector-block-fits : (length : ℕ) (flags : Direction) (code : CommandCode) → length < 256 ^ 4 → BlockFits (sectorCommand tag length flags code first count)
+    sector-block-fits length flags code h = record { tag = small; transfer = h; address = low; count = few }
+
+    -- erases, by either code
+    erase-ends : (code : CommandCode) → isErase (sectorCommand tag 0 Out code first count) ≡ true
+        → operationRun kind.Nothing (sectorCommand tag 0 Out code first count) device flash bytes store .end ≡ tells (pick (fitsIn sectors first count) (given nothing) (refused 57 []))
+    unfolding sectorData startTurn zeroLengthTurn orRefuse replyOf refuses
+    erase-ends code erases =
+        let c = sectorCommand tag 0 Out code first count in
+        let fits = sector-block-fits 0 Out code (omega arith) in
+        by-test (λ (x : Told Reply). operationRun kind.Nothing c device flash bytes store .end ≡ tells x) (fitsIn sectors first count)
+        (λ e. done-at-once kind.Nothing c device flash bytes store sectors stands fits (omega arith) (device .«last_reset») (effect.Fill (rangeOf c)) refl (rw (erases, e)))
+        (λ e. refused-at-once kind.Nothing c device flash bytes store sectors stands fits (omega arith) (refuses (device .«last_reset») 57 []) (rw (erases, e)) 57 [] refl)
+
+    pub erase-lba-ends : operationRun kind.Nothing (eraseLbaCommand tag first count) device flash bytes store .end
+        ≡ tells (pick (fitsIn sectors first count) (given nothing) (refused 57 []))
+    unfolding isErase hasCode
+    erase-lba-ends = erase-ends EraseLBA refl
+
+    pub erase-force-ends : operationRun kind.Nothing (eraseForceCommand tag first count) device flash bytes store .end
+        ≡ tells (pick (fitsIn sectors first count) (given nothing) (refused 57 []))
+    unfolding isErase hasCode
+    erase-force-ends = erase-ends EraseForce refl
+
+    -- reads and writes of some sectors ..
+    module _ (some : 0 < count) (enough : count * sectorSize ≤ length bytes) where
+      by-fit : (k : Kind) (c : CommandBlock) → (fitsIn sectors first count ≡ true → operationRun k c device flash bytes store .end ≡ tells (sectorReply (count * sectorSize) 0))
+          → (fitsIn sectors first count ≡ false → operationRun k c device flash bytes store .end ≡ tells (refused 57 []))
+          → operationRun k c device flash bytes store .end ≡ tells (pick (fitsIn sectors first count) (given (moved (record { 0 = count * sectorSize }))) (refused 57 []))
+      by-fit k c within out =
+          by-test (λ (x : Told Reply). operationRun k c device flash bytes store .end ≡ tells x) (fitsIn sectors first count)
+          (λ e. within e ∙ ap tells (sectors-moved (count * sectorSize) 0 (omega arith) ∙ ap (λ (n : ℕ). given (moved (record { 0 = n }))) (sub-zero (count * sectorSize))))
+          out
+
+      pub read-ends : operationRun kind.Read (readLbaCommand tag first count) device flash bytes store .end
+          ≡ tells (pick (fitsIn sectors first count) (given (moved (record { 0 = count * sectorSize }))) (refused 57 []))
+      unfolding sectorData readIoTurn codeTurn orRefuse hasCode isIn replyOf
+      read-ends =
+          let c = readLbaCommand tag first count in
+          let fits = sector-block-fits (count * sectorSize) In ReadLBA (omega arith) in
+          let last = device .«last_reset» in
+          by-fit kind.Read c
+          (λ e. read-answered kind.Read c device flash bytes store sectors stands fits enough (λ z. omega arith) enough refl (movedBy In (rangeOf c)) (sector-fits last c In sectors e))
+          (λ e. read-refused kind.Read c device flash bytes store sectors stands fits enough (λ z. omega arith) enough refl 57 [] (sector-out last c In sectors e))
+
+      pub write-ends : operationRun kind.Write (writeLbaCommand tag first count) device flash bytes store .end
+          ≡ tells (pick (fitsIn sectors first count) (given (moved (record { 0 = count * sectorSize }))) (refused 57 []))
+      unfolding sectorData writeIoTurn orRefuse hasCode isOut replyOf
+      write-ends =
+          let c = writeLbaCommand tag first count in
+          let fits = sector-block-fits (count * sectorSize) Out WriteLBA (omega arith) in
+          let last = device .«last_reset» in
+          by-fit kind.Write c
+          (λ e. write-answered kind.Write c device flash bytes store sectors stands fits enough (λ z. omega arith) enough refl (movedBy Out (rangeOf c)) (sector-fits last c Out sectors e))
+          (λ e. write-refused kind.Write c device flash bytes store sectors stands fits enough (λ z. omega arith) enough refl 57 [] (sector-out last c Out sectors e))
+
+  -- .. and of none, which have no data and so are unknown
+  module _ (first : ℕ) (low : first < 256 ^ 4) where
+    pub read-none-ends : operationRun kind.Read (readLbaCommand tag first 0) device flash bytes store .end ≡ tells (refused 53 (codeNumber ReadLBA ∷ []))
+    unfolding sectorData startTurn zeroLengthTurn isErase hasCode
+    read-none-ends = unknown-ends kind.Read (readLbaCommand tag first 0) (sector-block-fits first 0 low (omega arith) 0 In ReadLBA (omega arith)) (omega arith) refl
+
+    pub write-none-ends : operationRun kind.Write (writeLbaCommand tag first 0) device flash bytes store .end ≡ tells (refused 53 (codeNumber WriteLBA ∷ []))
+    unfolding sectorData startTurn zeroLengthTurn isErase hasCode
+    write-none-ends = unknown-ends kind.Write (writeLbaCommand tag first 0) (sector-block-fits first 0 low (omega arith) 0 Out WriteLBA (omega arith)) (omega arith) refl

@@ -1,0 +1,71 @@
+-- The document's P3 to P8, and the two longest images.
+use Prim.Native.Nat.{ℕ, _+_, _/_, _%_, _≤_}
+use mathlib.Core.Path.{_≡_, refl, ap, ap₂, _∙_}
+use mathlib.Core.Bool.{Bool, true, false}
+use mathlib.Core.List.{List, [], _∷_, _++_, map, flatten}
+use native.Mathlib.Omega.{arith}
+use lib.ListN.{length, replicate}
+use Rattle.promise.specs.Bytes.{lowFirst, highFirst}
+use Rattle.crc.specs.Check.{crcOver}
+use Rattle.maskrom_transfer.specs.Moves.{blockSize, checkBytes}
+use Rattle.maskrom.specs.Answers.{longest}
+use Rattle.theorems.specs.UploadBytes.{pad, lastZero, uploadBytes, pieces, cut}
+use Rattle.theorems.specs.PartDriver.{transfer, ended, driveParts, transfersOf}
+use Rattle.theorems.proofs.AnyCut.{any-cut, total, how-many, sizes}
+
+-- P3, P4: the empty image
+pub p3 : (area : ℕ) → transfersOf area true [] ≡ transfer area (0xFF ∷ 0xFF ∷ []) ∷ []
+unfolding transfersOf uploadBytes pad checkBytes lastZero pieces cut crcOver lowFirst highFirst
+p3 area = refl
+
+pub p4 : (area : ℕ) → transfersOf area false [] ≡ transfer area (0x00 ∷ 0x00 ∷ []) ∷ []
+unfolding transfersOf uploadBytes pad checkBytes lastZero pieces cut
+p4 area = refl
+
+-- the sizes of an upload's transfers
+abbrev sizesOf : Bool → List ℕ → List ℕ
+sizesOf checked image = map length (cut (uploadBytes checked image))
+
+sizes-at : (checked : Bool) (image : List ℕ) (n : ℕ) → length image ≡ n
+    → sizesOf checked image ≡ replicate (total n / blockSize) blockSize ++ (total n % blockSize ∷ [])
+sizes-at checked image n e = sizes checked image ∙ ap (λ (k : ℕ). replicate (total k / blockSize) blockSize ++ (total k % blockSize ∷ [])) e
+
+-- P5 to P8, with a check or without
+module _ (checked : Bool) (image : List ℕ) where
+  pub p5 : length image ≡ 4093 → sizesOf checked image ≡ 4095 ∷ []
+  unfolding total pad lastZero
+  p5 e = sizes-at checked image 4093 e
+
+  pub p6 : length image ≡ 4094 → sizesOf checked image ≡ 4096 ∷ 1 ∷ []
+  unfolding total pad lastZero
+  p6 e = sizes-at checked image 4094 e
+
+  pub p7 : length image ≡ 4095 → sizesOf checked image ≡ 4096 ∷ 2 ∷ []
+  unfolding total pad lastZero
+  p7 e = sizes-at checked image 4095 e
+
+  pub p8 : length image ≡ 4096 → sizesOf checked image ≡ 4096 ∷ 2 ∷ []
+  unfolding total pad lastZero
+  p8 e = sizes-at checked image 4096 e
+
+-- an image of n bytes under any cut: what comes of it, how many transfers, and how long the last is
+pub record Uploads (n many last : ℕ) : Type 0 where
+  pub ends : (area : ℕ) (checked : Bool) (image : List ℕ) (parts : List (List ℕ)) (out : List ℕ) → length image ≡ n → flatten parts ≡ image
+      → blockSize ≤ length out → driveParts area checked parts out ≡ ended (transfersOf area checked image)
+  pub number : (area : ℕ) (checked : Bool) (image : List ℕ) → length image ≡ n → length (transfersOf area checked image) ≡ many + 1
+  pub lengths : (checked : Bool) (image : List ℕ) → length image ≡ n → sizesOf checked image ≡ replicate many blockSize ++ (last ∷ [])
+
+uploads : (n many last : ℕ) → n ≤ longest → total n / blockSize ≡ many → total n % blockSize ≡ last → Uploads n many last
+uploads n many last l q r = record {
+  ends = λ area checked image parts out e p h. any-cut area checked image parts out p (omega arith) h;
+  number = λ area checked image e. how-many area checked image ∙ ap (λ (k : ℕ). total k / blockSize + 1) e ∙ ap (λ (k : ℕ). k + 1) q;
+  lengths = λ checked image e. sizes-at checked image n e ∙ ap₂ (λ (k j : ℕ). replicate k blockSize ++ (j ∷ [])) q r;
+}
+
+pub longest-but-one : Uploads 4294967294 1048576 1
+unfolding total pad lastZero
+longest-but-one = uploads 4294967294 1048576 1 (omega arith) refl refl
+
+pub longest-of-all : Uploads 4294967295 1048576 2
+unfolding total pad lastZero
+longest-of-all = uploads 4294967295 1048576 2 (omega arith) refl refl

@@ -1,0 +1,33 @@
+-- The bytes of an upload, and how they are cut into transfers.
+use Prim.Native.Nat.{ℕ, zero, suc, _+_, _/_, _%_}
+use mathlib.Core.Bool.{Bool}
+use mathlib.Core.List.{List, [], _∷_, _++_}
+use lib.ListN.{length, take, drop}
+use lib.Dec.{eqb}
+use Rattle.promise.specs.Rules.{pick}
+use Rattle.crc.specs.Check.{check}
+use Rattle.maskrom_transfer.specs.Moves.{blockSize, checkBytes}
+
+-- "a zero if its length mod 4,096 is 4,095"
+unfoldable pub pad : ℕ → List ℕ
+pad n = pick (eqb (n % blockSize) 4095) (0 ∷ []) []
+
+-- "a zero if the length mod 4,096 is 4,094"
+unfoldable pub lastZero : ℕ → List ℕ
+lastZero n = pick (eqb (n % blockSize) 4094) (0 ∷ []) []
+
+-- "the image; a zero if ..; the check of all that ..; a zero if .."
+unfoldable pub uploadBytes : Bool → List ℕ → List ℕ
+uploadBytes checked image =
+    let n = length image in
+    let body = image ++ pad n in
+    body ++ (checkBytes checked (check body) ++ lastZero n)
+
+-- k transfers, each as long as it can be
+unfoldable pub pieces : ℕ → List ℕ → List (List ℕ)
+pieces zero bs = []
+pieces (suc k) bs = take blockSize bs ∷ pieces k (drop blockSize bs)
+
+-- "With T bytes in all there are floor(T/4,096)+1 transfers"
+unfoldable pub cut : List ℕ → List (List ℕ)
+cut bs = pieces (length bs / blockSize + 1) bs
