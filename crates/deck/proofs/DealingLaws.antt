@@ -10,7 +10,7 @@ use lib.Seq.{take-at}
 use types.Run.{OneOf, miss}
 use denote.Enum.Declared.{tagOf}
 use Rattle.promise.specs.Told.{Told, number}
-use Rattle.promise.specs.Rules.{unless}
+use Rattle.promise.specs.Rules.{orRefuse}
 use Rattle.protocol.specs.declared.CommandBlock.{CommandBlock}
 use Rattle.protocol_reply.specs.Sectors.{sectorsIn}
 use Rattle.operation_finish.specs.declared.Kind.the-variants as kind
@@ -48,7 +48,7 @@ as-long n fill l e h = sym (ap length (take-filled n fill l e h) ∙ length-repl
 
 -- whole sectors are as many as they are
 pub sectors-exact : (count : ℕ) → count ≤ 65535 → sectorsOr0 (sectorsIn (count * 512)) ≡ count
-unfolding sectorsOr0 sectorsIn unless
+unfolding sectorsOr0 sectorsIn orRefuse
 sectors-exact count h =
     let none : count * 512 % 512 ≡ 0 = omega arith in
     let same : count * 512 / 512 ≡ count = omega arith in
@@ -66,7 +66,7 @@ as-asked r flash store op op′ bytes bytes′ h e f m =
 -- the start of a whole upload hands it back fresh
 pub starts-fresh : (area : ℕ) (checked : Bool) (image : List ℕ) → length image ≤ longest
     → after (freshWhole area checked 0) (startStep area checked image) ≡ freshWhole area checked (length image)
-unfolding startStep unless after
+unfolding startStep orRefuse after
 starts-fresh area checked image h = rw (le-ltb longest (length image) h)
 
 pub as-loaded : (r : Dealt) (flash store : List ℕ) (area : ℕ) (checked : Bool) (upload : WholeUpload) (image image′ : List ℕ) (h : Head)

@@ -8,7 +8,7 @@ use borrow.Author.Tests.{ltb-false, leb-true, eqb-true, eqb-false, not-false}
 use lib.ListN.{length}
 use lib.Dec.{eqb, ltb}
 use Rattle.promise.specs.Told.{Told, given}
-use Rattle.promise.specs.Rules.{pick, unless}
+use Rattle.promise.specs.Rules.{orRefuse, pick, unless}
 use Rattle.protocol_bytes.proofs.Given.{rule-met}
 use Rattle.promise.proofs.Outcome.{by-test, on-test}
 use Rattle.deck_block.specs.declared.Fields.{Fields}
@@ -62,7 +62,7 @@ pub record Passed (block : List ℕ) (r : Request) : Type 0 where
   pub asks : requestOf (fieldsOf block) ≡ given r
 
 no-rule : (told : Told Request) → told ≡ unless [] told
-unfolding unless
+unfolding orRefuse
 no-rule told = refl
 
 pub passed-rules : (tag : ℕ) (block : List ℕ) (r : Request) → readCard tag block ≡ given r → Passed block r

@@ -7,7 +7,7 @@ use borrow.Author.Tests.{not-false}
 use lib.ListN.{length}
 use lib.Dec.{eqb, ltb}
 use Rattle.promise.specs.Told.{Told, given, refused}
-use Rattle.promise.specs.Rules.{pick, unless}
+use Rattle.promise.specs.Rules.{orRefuse, pick}
 use Rattle.promise.specs.Bytes.{field}
 use Rattle.promise.proofs.Outcome.{by-test}
 use Rattle.protocol_codes.specs.declared.ResetOpcode.{ResetOpcode}
@@ -35,7 +35,7 @@ reset-told (given opcode) = tt
 reset-told (refused n values) = refl
 
 pub card-told : (tag : ℕ) (block : List ℕ) → CardTold (readCard tag block)
-unfolding readCard resetRequest unless
+unfolding readCard resetRequest orRefuse
 card-told tag block =
     let f = fieldsOf block in
     by-test CardTold (ltb (length block) blockLength) {a = refused 44 []} (λ e. refl)

@@ -9,7 +9,7 @@ use lib.Dec.{lit<}
 use lib.ListN.{length, take, replicate, length-append}
 use lib.Seq.{take-at, drop-at}
 use Rattle.promise.specs.Told.{Told, given, refused, number}
-use Rattle.promise.specs.Rules.{rule, unless}
+use Rattle.promise.specs.Rules.{orRefuse, rule, unless}
 use Rattle.promise.specs.Bytes.{field, lowFirst, highFirst, fromLow, fromHigh}
 use Rattle.promise.proofs.Order.{from-high-first}
 use Rattle.crc.specs.Check.{check, start}
@@ -52,7 +52,7 @@ rest-read : (body : List ℕ) → length body ≡ 510
     ∷ rule (tooLarge (fieldsOf (sealed body))) 43 []
     ∷ [])
     (requestOf (fieldsOf (sealed body)))
-unfolding readCard unless
+unfolding readCard orRefuse
 rest-read body long = rw (whole-block body long, eq-eqb _ _ (check-right body long)) refl
 
 -- a body by its kind, the last bytes of its word, its half and byte 8
@@ -79,31 +79,31 @@ abbrev unchecked : List ℕ
 unchecked = sealed (body 13 0 0 0 0 0)
 
 read-chip : readCard 1 chip ≡ given request.ChipInfo
-unfolding unless requestOf fieldsOf allZero isKind tooLarge fromLow fromHigh
+unfolding orRefuse requestOf fieldsOf allZero isKind tooLarge fromLow fromHigh
 read-chip = rest-read (body 1 0 0 0 0 0) refl
 
 read-id : readCard 1 flash-id ≡ given request.FlashId
-unfolding unless requestOf fieldsOf allZero isKind tooLarge fromLow fromHigh
+unfolding orRefuse requestOf fieldsOf allZero isKind tooLarge fromLow fromHigh
 read-id = rest-read (body 2 0 0 0 0 0) refl
 
 read-erase : readCard 1 erase ≡ given (request.EraseLba 0 0x0102)
-unfolding unless requestOf fieldsOf allZero isKind tooLarge fromLow fromHigh
+unfolding orRefuse requestOf fieldsOf allZero isKind tooLarge fromLow fromHigh
 read-erase = rest-read (body 5 0 0 1 2 0) refl
 
 read-image : readCard 1 long-image ≡ refused 43 []
-unfolding unless requestOf fieldsOf allZero isKind tooLarge fromLow fromHigh
+unfolding orRefuse requestOf fieldsOf allZero isKind tooLarge fromLow fromHigh
 read-image = rest-read (body 12 0x20 1 0 0 0) refl
 
 pub read-unknown : readCard 1 unknown ≡ refused 41 []
-unfolding unless requestOf fieldsOf allZero isKind tooLarge fromLow fromHigh
+unfolding orRefuse requestOf fieldsOf allZero isKind tooLarge fromLow fromHigh
 read-unknown = rest-read (body 0 0 0 0 0 1) refl
 
 read-unchecked : readCard 1 unchecked ≡ given (request.WriteAreaNoCrc 0 0 0)
-unfolding unless requestOf fieldsOf allZero isKind tooLarge fromLow fromHigh
+unfolding orRefuse requestOf fieldsOf allZero isKind tooLarge fromLow fromHigh
 read-unchecked = rest-read (body 13 0 0 0 0 0) refl
 
 pub read-none : readCard 1 [] ≡ refused 44 []
-unfolding readCard unless
+unfolding readCard orRefuse
 read-none = refl
 
 -- a reader that refuses every block

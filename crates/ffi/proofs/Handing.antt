@@ -10,7 +10,7 @@ use lib.ListN.{length, take, drop, length-take, length-drop}
 use types.Run.{OneOf, miss}
 use denote.Enum.Declared.{tagOf}
 use Rattle.promise.specs.Told.{Told, given, refused, number}
-use Rattle.promise.specs.Rules.{Rule, rule, unless, pick}
+use Rattle.promise.specs.Rules.{orRefuse, Rule, rule, unless, pick}
 use Rattle.promise.specs.Does.{Does, does, Meets, said}
 use Rattle.maskrom_transfer.proofs.Lists.{take-min}
 use Rattle.maskrom.specs.declared.MaskRomOperation.{MaskRomOperation}
@@ -76,7 +76,7 @@ pick-both P false x y h k = k
 
 within-unless : (most : ℕ) (rules : List Rule) (t : Told (Does Handed MaskRomOperation)) → Within most (partPace (said t))
     → Within most (partPace (said (unless rules t)))
-unfolding unless said partPace Within
+unfolding orRefuse said partPace Within
 within-unless most [] t h = h
 within-unless most (r ∷ rs) t h =
     pick-both (λ (x : Told (Does Handed MaskRomOperation)). Within most (partPace (said x))) (r .broken) (refused (r .number) (r .values)) (unless rs t) tt

@@ -6,7 +6,7 @@ use native.Mathlib.Omega.{arith}
 use lib.Dec.{lit<, lit≤}
 use lib.ListN.{getD, replicate}
 use Rattle.promise.specs.Told.{given, refused, number}
-use Rattle.promise.specs.Rules.{unless}
+use Rattle.promise.specs.Rules.{orRefuse}
 use Rattle.promise.specs.Bytes.{lowFirst, highFirst, front}
 use Rattle.protocol_bytes.specs.Writing.{writing}
 use Rattle.protocol.specs.Commands.{readLbaCommand}
@@ -34,7 +34,7 @@ nothing-written e = let differ : _≡_ {A = ℕ} 0 0x55 = ap (λ (l : List ℕ).
 
 -- an output that is too short, told as written
 pub short-output-unsaid : 0 ≡ number (writeCommand (readLbaCommand 1 0 1) 0 .told) → ⊥
-unfolding number writeCommand writing unless
+unfolding number writeCommand writing orRefuse
 short-output-unsaid e = let z : _≡_ {A = ℕ} 0 20 = e in omega arith
 
 -- the command that reads 3 sectors from sector 2

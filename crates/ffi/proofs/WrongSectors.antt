@@ -4,14 +4,14 @@ use mathlib.Core.Path.{_≡_, refl, ap, sym, _∙_}
 use mathlib.Core.List.{List, [], _∷_}
 use native.Mathlib.Omega.{arith}
 use lib.ListN.{getD}
-use Rattle.promise.specs.Rules.{unless}
+use Rattle.promise.specs.Rules.{orRefuse}
 use Rattle.protocol_reply.specs.Sectors.{sectorsIn}
 use Rattle.operation.specs.declared.steps.UsbOperation.{UsbOperation}
 use Rattle.ffi.specs.Sectors.{Carried, carried, SectorsMeet, carries, readSectors, writeSectors}
 
 -- one byte is no sectors, and leaves everything as it was
 no-sectors : (operation : ℕ → UsbOperation) (flash : List ℕ) → carries operation (sectorsIn 1) flash (0 ∷ []) ≡ carried 23 flash (0 ∷ [])
-unfolding carries sectorsIn unless
+unfolding carries sectorsIn orRefuse
 no-sectors operation flash = refl
 
 -- 23 not told

@@ -6,7 +6,7 @@ use mathlib.Core.List.{List, [], _∷_}
 use native.Mathlib.Omega.{arith}
 use lib.ListN.{getD, replicate}
 use Rattle.promise.specs.Told.{number, andThen}
-use Rattle.promise.specs.Rules.{unless}
+use Rattle.promise.specs.Rules.{orRefuse}
 use Rattle.promise.specs.Does.{said, sent, after}
 use Rattle.maskrom_transfer.specs.Moves.{blockSize, checkBytes, register, writing, movesAt}
 use Rattle.maskrom_transfer.specs.Sending.{sendStep}
@@ -28,17 +28,17 @@ area = 0x471
 
 -- a whole upload without a step, told as done
 pub spent-as-done : (out : List ℕ) → DriveMeets 0 out (wholeDrive area true image out 0) → ⊥
-unfolding onStart startStep unless stepDrive runs number endTold
+unfolding onStart startStep orRefuse stepDrive runs number endTold
 spent-as-done out m = let z : _≡_ {A = ℕ} 0 28 = m .tells in omega arith
 
 -- an output that is too short, told as an image that differs
 pub refused-as-another : DriveMeets differs [] (wholeDrive area true image [] 1) → ⊥
-unfolding onStart startStep unless stepDrive runs follow stepTurn onward wholeStep said sent after number endTold
+unfolding onStart startStep orRefuse stepDrive runs follow stepTurn onward wholeStep said sent after number endTold
 refused-as-another m = let z : _≡_ {A = ℕ} 27 20 = m .tells in omega arith
 
 -- a whole upload of which nothing is put into the output
 pub nothing-sent : (r : ℕ) → DriveMeets r zeros (wholeDrive area false image zeros 1) → ⊥
-unfolding onStart startStep unless stepDrive runs follow stepTurn onward wholeStep sendsOn most sendStep movesAt writing register checkBytes asks andThen said sent after number endTold
+unfolding onStart startStep orRefuse stepDrive runs follow stepTurn onward wholeStep sendsOn most sendStep movesAt writing register checkBytes asks andThen said sent after number endTold
 nothing-sent r m = let z : _≡_ {A = ℕ} 0 7 = ap (λ (l : List ℕ). getD l 0 0) (m .leaves) in omega arith
 
 -- an image that was not handed over, told as done
@@ -48,10 +48,10 @@ parts-spent-as-done out m = let z : _≡_ {A = ℕ} 0 28 = m .tells in omega ari
 
 -- an output that is too short for a part, told as an image that differs
 pub part-refused-as-another : DriveMeets differs [] (partDrive area true 1 image [] 1) → ⊥
-unfolding partDrive onHanded partTurn onPart partStep unless runs follow said sent after number endTold
+unfolding partDrive onHanded partTurn onPart partStep orRefuse runs follow said sent after number endTold
 part-refused-as-another m = let z : _≡_ {A = ℕ} 27 20 = m .tells in omega arith
 
 -- an upload by parts of which nothing is put into the output
 pub parts-nothing-sent : (r : ℕ) → DriveMeets r zeros (partDrive area false 1 image zeros 2) → ⊥
-unfolding partDrive onHanded partTurn onPart partStep takes closed unless stepDrive stepTurn onward closeStep sendStep movesAt writing register checkBytes asks andThen runs follow said sent after number endTold
+unfolding partDrive onHanded partTurn onPart partStep takes closed orRefuse stepDrive stepTurn onward closeStep sendStep movesAt writing register checkBytes asks andThen runs follow said sent after number endTold
 parts-nothing-sent r m = let z : _≡_ {A = ℕ} 0 7 = ap (λ (l : List ℕ). getD l 0 0) (m .leaves) in omega arith

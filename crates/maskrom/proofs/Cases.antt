@@ -9,7 +9,7 @@ use types.Run.{OneOf, miss}
 use denote.Enum.Declared.{tagOf}
 use borrow.Author.Tests.{eq-eqb, ne-eqb, lt-ltb, le-ltb}
 use Rattle.promise.specs.Told.{given, refused, andThen}
-use Rattle.promise.specs.Rules.{unless}
+use Rattle.promise.specs.Rules.{orRefuse}
 use Rattle.maskrom_transfer.proofs.MaskRomSteps.{the-type}
 use Rattle.maskrom_transfer.specs.declared.MaskRomSteps.{MaskRomSteps}
 use Rattle.maskrom_transfer.specs.declared.MaskRomSteps.the-variants.{Writing, Check, Dummy, Done}
@@ -55,20 +55,20 @@ most-block Done = omega arith
 
 module _ (m : MaskRomOperation) (xs : List ℕ) (room : ℕ) where
   pub part-20 : room < 4096 → partStep m xs room ≡ refused tooShort []
-  unfolding partStep unless
+  unfolding partStep orRefuse
   part-20 h = rw (lt-ltb room 4096 h)
 
   pub part-26 : 4096 ≤ room → closed (m .steps) ≡ true → partStep m xs room ≡ refused closedAlready []
-  unfolding partStep unless
+  unfolding partStep orRefuse
   part-26 h e = rw (le-ltb room 4096 h, e)
 
   pub part-25 : 4096 ≤ room → closed (m .steps) ≡ false → longest < m .taken + length xs → partStep m xs room ≡ refused tooLong []
-  unfolding partStep unless
+  unfolding partStep orRefuse
   part-25 h e l = rw (le-ltb room 4096 h, e, lt-ltb longest (m .taken + length xs) l)
 
   pub part-takes : 4096 ≤ room → closed (m .steps) ≡ false → m .taken + length xs ≤ longest
       → partStep m xs room ≡ given (takes m (take (4096 - waiting m) xs))
-  unfolding partStep unless
+  unfolding partStep orRefuse
   part-takes h e l = rw (le-ltb room 4096 h, e, le-ltb longest (m .taken + length xs) l)
 
 module _ (m : MaskRomOperation) (ys : List ℕ) where
@@ -93,15 +93,15 @@ close-acts m room h = rw (send-acts (m .steps) (m .checked) (m .crc) (held m) ro
 
 module _ (u : WholeUpload) (image : List ℕ) (room : ℕ) where
   pub whole-20 : room < 4096 → wholeStep u image room ≡ refused tooShort []
-  unfolding wholeStep unless
+  unfolding wholeStep orRefuse
   whole-20 h = rw (lt-ltb room 4096 h)
 
   pub whole-27 : 4096 ≤ room → (length image ≡ u .length → ⊥) → wholeStep u image room ≡ refused differs []
-  unfolding wholeStep unless
+  unfolding wholeStep orRefuse
   whole-27 h e = rw (le-ltb room 4096 h, ne-eqb (length image) (u .length) e)
 
   pub whole-sends : 4096 ≤ room → length image ≡ u .length → wholeStep u image room ≡ sendsOn u (chunk u image) room
-  unfolding wholeStep unless
+  unfolding wholeStep orRefuse
   whole-sends h e = rw (le-ltb room 4096 h, eq-eqb (length image) (u .length) e)
 
 pub sends-acts : (u : WholeUpload) (w : List ℕ) (room : ℕ) → 4096 ≤ room

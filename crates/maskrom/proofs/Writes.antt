@@ -9,7 +9,7 @@ use lib.ListN.{length, take, drop, length-append, length-take}
 use lib.Seq.{take-append-seam}
 use lib.Dec.{eqb, ltb}
 use Rattle.promise.specs.Told.{Told, given, refused, andThen}
-use Rattle.promise.specs.Rules.{Rule, rule, unless, pick}
+use Rattle.promise.specs.Rules.{orRefuse, Rule, rule, unless, pick}
 use Rattle.promise.specs.Bytes.{front}
 use Rattle.maskrom_transfer.specs.declared.Moved.{Moved}
 use Rattle.maskrom_transfer.specs.declared.MaskRomSteps.{MaskRomSteps}
@@ -35,7 +35,7 @@ few-pick true x y h k = h
 few-pick false x y h k = k
 
 few-unless : {A R : Type 0} (rules : List Rule) (t : Told (Does A R)) → length (sent t) ≤ 4096 → length (sent (unless rules t)) ≤ 4096
-unfolding unless sent
+unfolding orRefuse sent
 few-unless [] t h = h
 few-unless (r ∷ rs) t h = few-pick (r .broken) (refused (r .number) (r .values)) (unless rs t) (omega arith) (few-unless rs t h)
 

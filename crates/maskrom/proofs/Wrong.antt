@@ -8,7 +8,7 @@ use lib.ListN.{length, replicate}
 use lib.Dec.{lit≤}
 use borrow.Author.Tests.{lt-ltb, le-ltb}
 use Rattle.promise.specs.Told.{Told, given, refused, number, andThen}
-use Rattle.promise.specs.Rules.{unless, pick}
+use Rattle.promise.specs.Rules.{orRefuse, pick}
 use Rattle.promise.specs.Bytes.{front}
 use Rattle.maskrom_transfer.specs.Moves.{writing, movesAt}
 use Rattle.promise.specs.Does.{Does, Meets, said, sent, after}
@@ -59,7 +59,7 @@ nearly = withBlock (fresh 0 true) 4294967294 0 (replicate 4096 0)
 -- `part`: an image of 4,294,967,295 bytes refused
 pub longest-refused : (r : PartStepped) (old new : List ℕ) → partTold (r .step) ≡ refused tooLong []
     → Meets (partTold (r .step)) (r .next) old new nearly (partStep nearly (1 ∷ []) 4096) → ⊥
-unfolding partStep unless takes closed said number
+unfolding partStep orRefuse takes closed said number
 longest-refused r old new told meets = let differ : _≡_ {A = ℕ} 25 0 = ap number (sym told ∙ meets .tells) in omega arith
 
 -- the area that is asked for, where a write is
@@ -71,27 +71,27 @@ areaOf (refused n vs) = 0
 -- `close`: a transfer to another area
 pub close-area-lost : (r : CloseStepped) (c : Control) (old new : List ℕ) → stepTold (r .step) ≡ given (writes c) → c .index ≡ 0
     → Meets (stepTold (r .step)) (r .next) old new (fresh 1 true) (closeStep (fresh 1 true) 4096) → ⊥
-unfolding closeStep andThen sendStep unless movesAt writing asks said areaOf
+unfolding closeStep andThen sendStep orRefuse movesAt writing asks said areaOf
 close-area-lost r c old new told zero meets =
     let differ : _≡_ {A = ℕ} 0 1 = sym zero ∙ ap areaOf (sym told ∙ meets .tells) in omega arith
 
 -- `close`: a step that leaves the record as it was
 pub close-does-nothing : (r : CloseStepped) (old new : List ℕ) → r .next ≡ fresh 1 true
     → Meets (stepTold (r .step)) (r .next) old new (fresh 1 true) (closeStep (fresh 1 true) 4096) → ⊥
-unfolding closeStep andThen sendStep unless movesAt writing after closed
+unfolding closeStep andThen sendStep orRefuse movesAt writing after closed
 close-does-nothing r old new same meets =
     let differ : _≡_ {A = ℕ} 0 1 = ap (λ (m : MaskRomOperation). pick (closed (m .steps)) 1 0) (sym same ∙ meets .next) in omega arith
 
 -- `write_area` and `write_area_no_crc`: one start for both
 pub start-check-dropped : (r : WholeStart) (area : ℕ) → StartMeets r area true [] → StartMeets r area false [] → ⊥
-unfolding startStep unless after
+unfolding startStep orRefuse after
 start-check-dropped r area on off =
     let differ : _≡_ {A = ℕ} 1 0 = ap (λ (u : WholeUpload). pick (u .checked) 1 0) (sym (on .next) ∙ off .next) in omega arith
 
 -- `write_area` and `write_area_no_crc`: beside a refused start a record of another length
 pub refused-start-keeps-length : (r : WholeStart) (area : ℕ) (checked : Bool) (image : List ℕ) → longest < length image
     → r .upload .length ≡ 1 → StartMeets r area checked image → ⊥
-unfolding startStep unless after
+unfolding startStep orRefuse after
 refused-start-keeps-length r area checked image h one meets =
     let refusing : startStep area checked image ≡ refused tooLong [] = rw (lt-ltb longest (length image) h) in
     let differ : _≡_ {A = ℕ} 1 0 =
@@ -101,7 +101,7 @@ refused-start-keeps-length r area checked image h one meets =
 -- `write_area` and `write_area_no_crc`: an image of 4,294,967,295 bytes refused
 pub longest-start-refused : (r : WholeStart) (area : ℕ) (checked : Bool) (image : List ℕ) → length image ≡ longest
     → startTold (r .start) ≡ refused tooLong [] → StartMeets r area checked image → ⊥
-unfolding startStep unless said number
+unfolding startStep orRefuse said number
 longest-start-refused r area checked image e told meets =
     let starts : number (said (startStep area checked image)) ≡ 0 = rw (le-ltb longest (length image) (omega arith)) in
     let differ : _≡_ {A = ℕ} 25 0 = ap number (sym told ∙ meets .tells) ∙ starts in
@@ -114,13 +114,13 @@ whole = freshWhole 1 true 1
 -- `step`: 27 against what was taken and not against the length
 pub another-length : (r : WholeStepped) (old new : List ℕ) → stepTold (r .step) ≡ refused differs []
     → Meets (stepTold (r .step)) (r .next) old new whole (wholeStep whole (7 ∷ []) 4096) → ⊥
-unfolding wholeStep sendsOn andThen sendStep unless movesAt writing asks most said number
+unfolding wholeStep sendsOn andThen sendStep orRefuse movesAt writing asks most said number
 another-length r old new told meets = let differ : _≡_ {A = ℕ} 27 0 = ap number (sym told ∙ meets .tells) in omega arith
 
 -- `step`: a transfer to another area
 pub step-area-lost : (r : WholeStepped) (c : Control) (old new : List ℕ) → stepTold (r .step) ≡ given (writes c) → c .index ≡ 0
     → Meets (stepTold (r .step)) (r .next) old new whole (wholeStep whole (7 ∷ []) 4096) → ⊥
-unfolding wholeStep sendsOn andThen sendStep unless movesAt writing asks most said areaOf
+unfolding wholeStep sendsOn andThen sendStep orRefuse movesAt writing asks most said areaOf
 step-area-lost r c old new told zero meets =
     let differ : _≡_ {A = ℕ} 0 1 = sym zero ∙ ap areaOf (sym told ∙ meets .tells) in omega arith
 

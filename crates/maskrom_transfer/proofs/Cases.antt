@@ -7,7 +7,7 @@ use native.Mathlib.Omega.{arith}
 use lib.ListN.{length}
 use borrow.Author.Tests.{eq-eqb, ne-eqb, lt-ltb, le-ltb}
 use Rattle.promise.specs.Told.{Told, given, refused, andThen}
-use Rattle.promise.specs.Rules.{unless}
+use Rattle.promise.specs.Rules.{orRefuse}
 use Rattle.promise.specs.Bytes.{front}
 use Rattle.promise.proofs.Order.{length-high-first}
 use Rattle.maskrom_transfer.specs.declared.Moved.{Moved}
@@ -61,12 +61,12 @@ moved-is r old new to m =
 
 module _ (steps : MaskRomSteps) (checked : Bool) (crc : ℕ) (w : List ℕ) (room : ℕ) where
   pub send-20 : room < 4096 → sendStep steps checked crc w room ≡ refused tooShort []
-  unfolding sendStep unless
+  unfolding sendStep orRefuse
   send-20 h = rw (lt-ltb room 4096 h)
 
   pub send-acts : 4096 ≤ room
       → sendStep steps checked crc w room ≡ given (does (moved (movesAt steps checked crc w)) (movesAt steps checked crc w .bytes) tt)
-  unfolding sendStep unless
+  unfolding sendStep orRefuse
   send-acts h = rw (le-ltb room 4096 h)
 
 -- a promise, from the branch that its definition takes

@@ -8,7 +8,7 @@ use lib.ListN.{getD, replicate, length-replicate}
 use lib.Dec.{lit≤}
 use Rattle.promise.specs.Told.{Told, given, refused, number}
 use Rattle.promise.specs.Bytes.{lowFirst, highFirst}
-use Rattle.promise.specs.Rules.{unless}
+use Rattle.promise.specs.Rules.{orRefuse}
 use Rattle.crc.specs.Check.{bitStep, bitsStep, byteStep, crcOver}
 use Rattle.maskrom_transfer.specs.declared.Moved.{Moved}
 use Rattle.maskrom_transfer.specs.declared.MaskRomSteps.{MaskRomSteps}
@@ -38,13 +38,13 @@ bytes-unread r none one = let differ : _≡_ {A = ℕ} 0 0x1021 = sym none ∙ o
 -- `send`: the check with its low byte first, of an image that has ended at the register 1
 pub low-byte-first : (r : Sent) (old new : List ℕ) → Meets (sentTold r) tt old new tt (sendStep Writing true 1 [] 4096)
     → getD new 0 0 ≡ 1 → ⊥
-unfolding sendStep unless movesAt writing checkBytes highFirst lowFirst sent
+unfolding sendStep orRefuse movesAt writing checkBytes highFirst lowFirst sent
 low-byte-first r old new meets first =
     let differ : _≡_ {A = ℕ} 1 0 = sym first ∙ ap (λ (l : List ℕ). getD l 0 0) (meets .leaves) in omega arith
 
 -- `send`: a step that leaves the output as it was
 pub nothing-sent : (r : Sent) (rest : List ℕ) → Meets (sentTold r) tt (0 ∷ 0 ∷ rest) (0 ∷ 0 ∷ rest) tt (sendStep Writing true 1 [] 4096) → ⊥
-unfolding sendStep unless movesAt writing checkBytes highFirst lowFirst sent
+unfolding sendStep orRefuse movesAt writing checkBytes highFirst lowFirst sent
 nothing-sent r rest meets = let differ : _≡_ {A = ℕ} 0 1 = ap (λ (l : List ℕ). getD l 1 0) (meets .leaves) in omega arith
 
 -- where an upload stands, as a number

@@ -5,8 +5,7 @@ use mathlib.Core.List.{List, [], _∷_}
 use native.Mathlib.Omega.{arith}
 use lib.ListN.{getD, replicate}
 use Rattle.promise.specs.Told.{number, andThen}
-use Rattle.promise.specs.Rules.{unless}
-use Rattle.promise.specs.Outcome.{orRefuse}
+use Rattle.promise.specs.Rules.{orRefuse}
 use Rattle.promise.specs.Over.{over}
 use Rattle.protocol_codes.specs.Numbers.{resetNumber}
 use Rattle.protocol_codes.specs.declared.ResetOpcode.the-variants.{Reset, Maskrom}
@@ -80,25 +79,25 @@ module _ (config : MockDeviceConfig) where
 
   -- 60 not told
   pub flash-length-not-told : (r : MockStep) → told r ≡ 0 → CreateMeets r (created config 513 72) → ⊥
-  unfolding created number andThen flashSectors flashRules unless
+  unfolding created number andThen flashSectors flashRules orRefuse
   flash-length-not-told r e meets = let z : _≡_ {A = ℕ} 0 60 = sym e ∙ ap number (meets .tells .tells) in omega arith
 
   module _ (last : LastReset) where
     -- `MockState::write_bulk`: nothing written
     pub write-does-nothing : (r : MockStep) → MockMeets r flash (writeBulk (device (IO command) last) flash ones) → ⊥
-    unfolding writeBulk writeStep writeStepOf flashSectors flashRules unless writeRow writeIoTurn sectorTurn orRefuse isOut hasCode fitsIn done movedBy flashAfter over
+    unfolding writeBulk writeStep writeStepOf flashSectors flashRules orRefuse writeRow writeIoTurn sectorTurn isOut hasCode fitsIn done movedBy flashAfter over
     write-does-nothing r meets = let z : _≡_ {A = ℕ} 0 1 = ap (λ (l : List ℕ). getD l 0 0) (meets .leaves) in omega arith
 
     -- the transaction kept
     pub write-keeps-transaction : (r : MockStep) (after : List ℕ) → r .state ≡ device (Status command) last
         → MockMeets r after (writeBulk (device (Status command) last) flash ones) → ⊥
-    unfolding writeBulk writeStep writeStepOf flashSectors flashRules unless writeRow refuses
+    unfolding writeBulk writeStep writeStepOf flashSectors flashRules orRefuse writeRow refuses
     write-keeps-transaction r after e meets = let z : _≡_ {A = ℕ} 2 0 = sym (ap waits e) ∙ ap waits (meets .next) in omega arith
 
     -- `MockState::read_bulk`: the transaction kept
     pub read-keeps-transaction : (r : MockStep) (after : List ℕ) → r .state ≡ device (Status command) last
         → MockMeets r after (readBulk (device (Status command) last) flash []) → ⊥
-    unfolding readBulk readStep readStepOf flashSectors flashRules unless readRow statusTurn orRefuse replySize refuses
+    unfolding readBulk readStep readStepOf flashSectors flashRules orRefuse readRow statusTurn replySize refuses
     read-keeps-transaction r after e meets = let z : _≡_ {A = ℕ} 2 0 = sym (ap waits e) ∙ ap waits (meets .next) in omega arith
 
     -- `MockState::write_control`: another request type taken
@@ -130,7 +129,7 @@ module _ (config : MockDeviceConfig) where
   -- `MockState::read_bulk`: the reset forgotten
   pub read-forgets-reset : (r : MockStep) (after : List ℕ) → r .state .«last_reset» ≡ reset.None
       → MockMeets r after (readBulk (device None (reset.Some Maskrom)) flash []) → ⊥
-  unfolding readBulk readStep readStepOf flashSectors flashRules unless readRow refuses
+  unfolding readBulk readStep readStepOf flashSectors flashRules orRefuse readRow refuses
   read-forgets-reset r after e meets =
       let z : _≡_ {A = ℕ} 5 3 = sym (ap resetTold e) ∙ ap (λ (s : MockState). resetTold (s .«last_reset»)) (meets .next) in omega arith
 

@@ -6,8 +6,7 @@ use mathlib.Core.List.{List, [], _∷_}
 use lib.Dec.{eqb}
 use lib.ListN.{length}
 use Rattle.promise.specs.Told.{Told, given, refused, andThen}
-use Rattle.promise.specs.Rules.{Rule, rule, pick}
-use Rattle.promise.specs.Outcome.{orRefuse}
+use Rattle.promise.specs.Rules.{Rule, rule, pick, orRefuse}
 use Rattle.mock_areas.specs.Slots.{freshAreas, areaFound}
 use Rattle.mock_areas.specs.Append.{appendStep}
 use Rattle.mock_areas.specs.declared.Areas.{Areas}

@@ -4,7 +4,7 @@ use mathlib.Core.Path.{_≡_}
 use mathlib.Core.List.{List, []}
 use lib.ListN.{length}
 use borrow.Author.Tests.{le-leb, lt-leb, lt-ltb, le-ltb}
-use Rattle.promise.specs.Outcome.{orRefuse}
+use Rattle.promise.specs.Rules.{orRefuse}
 use Rattle.mock_areas.specs.Slots.{slotCount, slotSize, place}
 use Rattle.mock_areas.specs.Append.{appendRules, refusedAppend, appendedAt, appendStep}
 use Rattle.mock_areas.specs.declared.Areas.{Areas}

@@ -6,7 +6,7 @@ use mathlib.Core.List.{List, [], _∷_}
 use native.Mathlib.Omega.{arith}
 use lib.ListN.{getD, replicate}
 use Rattle.promise.specs.Told.{number}
-use Rattle.promise.specs.Outcome.{orRefuse}
+use Rattle.promise.specs.Rules.{orRefuse}
 use Rattle.promise.specs.Over.{over}
 use Rattle.mock_areas.specs.Slots.{freeSlot, freshAreas, passes, firstAt, heldAt, place, areaFound}
 use Rattle.mock_areas.specs.Append.{heldBy, appendRules, appendedAt, appendStep, areaTold, AppendMeets}

@@ -6,9 +6,8 @@ use mathlib.Core.List.{List, [], _∷_}
 use lib.Dec.{leb, ltb}
 use lib.ListN.{length, set}
 use Rattle.promise.specs.Told.{Told, given, refused}
-use Rattle.promise.specs.Rules.{Rule, rule}
+use Rattle.promise.specs.Rules.{Rule, rule, orRefuse}
 use Rattle.promise.specs.Over.{over}
-use Rattle.promise.specs.Outcome.{orRefuse}
 use Rattle.mock_areas.specs.Slots.{slotCount, slotSize, place}
 use Rattle.mock_areas.specs.declared.Areas.{Areas}
 use Rattle.mock_areas.specs.declared.Place.{Place}

@@ -7,7 +7,7 @@ use native.Mathlib.Omega.{arith}
 use lib.Dec.{ltb, eqb}
 use borrow.Author.Tests.{leb-true, le-leb, eqb-true, not-false, ltb-false}
 use Rattle.promise.specs.Told.{given, refused}
-use Rattle.promise.specs.Rules.{pick, unless}
+use Rattle.promise.specs.Rules.{orRefuse, pick}
 use Rattle.protocol_bytes.specs.Sector.{sectorSize}
 use Rattle.mock_base.specs.Flash.{mostFlashSectors, flashRules, flashSectors, fitsIn, rangeIn}
 use Rattle.mock_base.specs.declared.range.FlashRange.{FlashRange}
@@ -62,7 +62,7 @@ unrefused false false m n u v x y e = (refl, refl, cc)
 
 -- a flash that was taken is that many whole sectors
 pub whole-sectors : (n sectors : ℕ) → flashSectors n ≡ given sectors → (n ≡ sectors * sectorSize) × (sectors ≤ mostFlashSectors)
-unfolding flashSectors flashRules unless
+unfolding flashSectors flashRules orRefuse
 whole-sectors n sectors e =
     let u = unrefused (not (eqb (n % sectorSize) 0)) (ltb mostFlashSectors (n / sectorSize)) 60 61 (n ∷ []) [] (n / sectorSize) sectors e in
     let z = eqb-true (n % sectorSize) 0 (not-false (eqb (n % sectorSize) 0) (u .0)) in

@@ -3,7 +3,7 @@ use Prim.Native.Nat.{ℕ, _≤_}
 use mathlib.Core.Path.{_≡_, ap}
 use native.Mathlib.Omega.{arith}
 use Rattle.promise.specs.Told.{number}
-use Rattle.promise.specs.Rules.{unless}
+use Rattle.promise.specs.Rules.{orRefuse}
 use Rattle.protocol_bytes.specs.Signature.{noSignature}
 use Rattle.mock_base.specs.Told.{errorNumber, resultTold}
 use Rattle.mock_base.specs.Flash.{flashRules, flashSectors, sizeTold, sizeResult, sizeAnswer, fitsIn, rangeIn, rangeTold}
@@ -57,17 +57,17 @@ never-57 e = omega arith
 
 -- `flash_sectors`: a part of a sector taken, whatever number of sectors is told for it
 pub part-of-a-sector : (sectors : ℕ) → sizeTold (Whole sectors) ≡ flashSectors 513 → ⊥
-unfolding sizeTold flashSectors flashRules unless
+unfolding sizeTold flashSectors flashRules orRefuse
 part-of-a-sector sectors e = let z : _≡_ {A = ℕ} 0 1 = cc in omega arith
 
 -- 65,536 sectors refused, whatever the refusal
 pub fewer-sectors : (error : MockTransportError) → sizeTold (Refused error) ≡ flashSectors 33554432 → ⊥
-unfolding sizeTold flashSectors flashRules unless
+unfolding sizeTold flashSectors flashRules orRefuse
 fewer-sectors error e = let z : _≡_ {A = ℕ} 0 1 = cc in omega arith
 
 -- 61 not told
 pub more-sectors : (sectors : ℕ) → sizeTold (Whole sectors) ≡ flashSectors 33554944 → ⊥
-unfolding sizeTold flashSectors flashRules unless
+unfolding sizeTold flashSectors flashRules orRefuse
 more-sectors sectors e = let z : _≡_ {A = ℕ} 0 1 = cc in omega arith
 
 -- `size_answer`: a refusal not told

@@ -4,9 +4,8 @@ use mathlib.Core.Path.{_≡_, ap, sym, _∙_}
 use mathlib.Core.List.{List, []}
 use native.Mathlib.Omega.{arith}
 use lib.ListN.{getD, replicate}
-use Rattle.promise.specs.Rules.{unless}
+use Rattle.promise.specs.Rules.{orRefuse}
 use Rattle.promise.specs.Bytes.{lowFirst, highFirst}
-use Rattle.promise.specs.Outcome.{orRefuse}
 use Rattle.promise.specs.Over.{over}
 use Rattle.protocol_codes.specs.Numbers.{resetNumber}
 use Rattle.protocol_codes.specs.declared.ResetOpcode.the-variants.{Maskrom}
@@ -69,42 +68,42 @@ transaction-at-first s n e f = let z : suc n ≡ 0 = sym e ∙ ap waits f in ome
 
 -- `start_step`: a start that is refused its flash forgets the record
 pub refused-start-forgets : (r : SessionStep) → r .session ≡ freshSession → StepMeets r [] (startStep forStatus 513) → ⊥
-unfolding startStep startStepOf flashSectors flashRules unless
+unfolding startStep startStepOf flashSectors flashRules orRefuse
 refused-start-forgets r e meets = let z : _≡_ {A = ℕ} 0 2 = sym (ap waits e) ∙ ap waits (meets .next) in omega arith
 
 -- a start that keeps the record
 pub start-keeps-the-record : (r : SessionStep) → r .session ≡ forStatus → StepMeets r [] (startStep forStatus 512) → ⊥
-unfolding startStep startStepOf flashSectors flashRules unless
+unfolding startStep startStepOf flashSectors flashRules orRefuse
 start-keeps-the-record r e meets = let z : _≡_ {A = ℕ} 2 0 = sym (ap waits e) ∙ ap waits (meets .next) in omega arith
 
 -- `start`: the same of the record behind the reference
 pub refused-start-forgets-lent : (r : MockAnswer) → CallMeets r freshSession [] (startStep forStatus 513) → ⊥
-unfolding startStep startStepOf flashSectors flashRules unless
+unfolding startStep startStepOf flashSectors flashRules orRefuse
 refused-start-forgets-lent r meets = let z : _≡_ {A = ℕ} 0 2 = ap waits (meets .next) in omega arith
 
 pub start-changes-nothing : (r : MockAnswer) → CallMeets r forStatus [] (startStep forStatus 512) → ⊥
-unfolding startStep startStepOf flashSectors flashRules unless
+unfolding startStep startStepOf flashSectors flashRules orRefuse
 start-changes-nothing r meets = let z : _≡_ {A = ℕ} 2 0 = ap waits (meets .next) in omega arith
 
 -- `write_bulk`: the record behind the reference left as it was
 pub write-keeps-the-record : (r : MockAnswer) (after : List ℕ) → CallMeets r forStatus after (writeStep forStatus flash ones) → ⊥
-unfolding writeStep writeStepOf flashSectors flashRules unless writeRow refuses
+unfolding writeStep writeStepOf flashSectors flashRules orRefuse writeRow refuses
 write-keeps-the-record r after meets = let z : _≡_ {A = ℕ} 2 0 = ap waits (meets .next) in omega arith
 
 -- the flash left as it was
 pub write-leaves-the-flash : (r : MockAnswer) (s : Session) → CallMeets r s flash (writeStep forData flash ones) → ⊥
-unfolding writeStep writeStepOf flashSectors flashRules unless writeRow writeIoTurn sectorTurn orRefuse isOut hasCode fitsIn done movedBy flashAfter over
+unfolding writeStep writeStepOf flashSectors flashRules orRefuse writeRow writeIoTurn sectorTurn isOut hasCode fitsIn done movedBy flashAfter over
 write-leaves-the-flash r s meets = let z : _≡_ {A = ℕ} 0 1 = ap (λ (l : List ℕ). getD l 0 0) (meets .leaves) in omega arith
 
 module _ (config : MockDeviceConfig) where
   -- `read_bulk`: the record behind the reference left as it was
   pub read-keeps-the-record : (r : MockAnswer) (after : List ℕ) → CallMeets r forStatus after (readStep forStatus config flash []) → ⊥
-  unfolding readStep readStepOf flashSectors flashRules unless readRow statusTurn orRefuse replySize refuses
+  unfolding readStep readStepOf flashSectors flashRules orRefuse readRow statusTurn replySize refuses
   read-keeps-the-record r after meets = let z : _≡_ {A = ℕ} 2 0 = ap waits (meets .next) in omega arith
 
   -- the buffer of a status left as it was
   pub read-fills-nothing : (r : MockAnswer) (s : Session) → CallMeets r s (replicate 13 0) (readStep forStatus config flash (replicate 13 0)) → ⊥
-  unfolding readStep readStepOf flashSectors flashRules unless readRow statusTurn orRefuse replySize done bufferAfter replyBytes statusBytes lowFirst highFirst
+  unfolding readStep readStepOf flashSectors flashRules orRefuse readRow statusTurn replySize done bufferAfter replyBytes statusBytes lowFirst highFirst
   read-fills-nothing r s meets = let z : _≡_ {A = ℕ} 0 0x55 = ap (λ (l : List ℕ). getD l 0 0) (meets .leaves) in omega arith
 
 -- `look`: a fresh record whatever is lent

@@ -4,7 +4,7 @@ use mathlib.Core.Path.{_≡_, ap, sym, _∙_}
 use native.Mathlib.Omega.{arith}
 use lib.ListN.{replicate}
 use Rattle.promise.specs.Told.{number}
-use Rattle.promise.specs.Outcome.{orRefuse}
+use Rattle.promise.specs.Rules.{orRefuse}
 use Rattle.protocol_codes.specs.declared.Direction.the-variants.{In}
 use Rattle.protocol_codes.specs.declared.CommandCode.the-variants.{WriteLBA}
 use Rattle.protocol.specs.Commands.{sectorCommand, writeLbaCommand, chipInfoCommand}

@@ -5,8 +5,7 @@ use mathlib.Core.List.{List, [], _∷_}
 use lib.Dec.{eqb}
 use lib.ListN.{length}
 use Rattle.promise.specs.Told.{Told, given, refused}
-use Rattle.promise.specs.Rules.{Rule, rule, pick}
-use Rattle.promise.specs.Outcome.{orRefuse}
+use Rattle.promise.specs.Rules.{Rule, rule, pick, orRefuse}
 use Rattle.protocol_codes.specs.Numbers.{codeNumber}
 use Rattle.protocol_codes.specs.Reading.{resetOf}
 use Rattle.protocol_codes.specs.declared.ResetOpcode.{ResetOpcode}

@@ -8,9 +8,8 @@ use borrow.Author.Tests.{lt-ltb, le-ltb, ltb-true, ltb-false}
 use lib.Dec.{ltb}
 use lib.ListN.{length, take}
 use Rattle.promise.specs.Told.{Told, given, refused, andThen}
-use Rattle.promise.specs.Rules.{pick, unless}
+use Rattle.promise.specs.Rules.{pick, orRefuse}
 use Rattle.promise.specs.Bytes.{front, highFirst, lowFirst}
-use Rattle.promise.specs.Outcome.{orRefuse}
 use Rattle.protocol_bytes.specs.Signature.{noSignature, signatureIn}
 use Rattle.protocol_bytes.specs.Writing.{writing, writtenTold, WriteMeets}
 use Rattle.protocol_bytes.specs.declared.output.Written.{Written}
@@ -61,7 +60,7 @@ module _ (command : CommandBlock) (before after : List ℕ) (r : Written) where
   short-at false e h l = let z : _≡_ {A = ℕ} 0 1 = cc in absurd (omega arith)
 
   pub written-short : r ≡ TooShort → WriteMeets r before after (writeCommand command (length before)) → (length before < 31) × (after ≡ before)
-  unfolding writeCommand writing unless writtenTold
+  unfolding writeCommand writing orRefuse writtenTold
   written-short e m = short-at (ltb (length before) 31) refl (ap writtenTold (sym e) ∙ m .tells) (m .leaves)
 
   whole-at : (t : Bool) (n : ℕ) → ltb (length before) 31 ≡ t → _≡_ {A = Told ℕ} (given n) (pick t (refused 20 []) (given 31))
@@ -71,7 +70,7 @@ module _ (command : CommandBlock) (before after : List ℕ) (r : Written) where
 
   pub written-whole : (n : ℕ) → r ≡ Bytes n → WriteMeets r before after (writeCommand command (length before))
       → (31 ≤ length before) × (after ≡ front (commandBytes command) before)
-  unfolding writeCommand writing unless writtenTold
+  unfolding writeCommand writing orRefuse writtenTold
   written-whole n e m = whole-at (ltb (length before) 31) n refl (ap writtenTold (sym e) ∙ m .tells) (m .leaves)
 
 pub command-bytes-long : (command : CommandBlock) → length (commandBytes command) ≡ 24

@@ -6,10 +6,9 @@ use native.Mathlib.Omega.{arith}
 use borrow.Author.Tests.{lt-ltb, le-ltb, ltb-false}
 use lib.ListN.{length, length-append, length-drop}
 use Rattle.promise.specs.Told.{given, refused, andThen}
-use Rattle.promise.specs.Rules.{Rule}
+use Rattle.promise.specs.Rules.{Rule, orRefuse}
 use Rattle.promise.specs.Bytes.{front}
 use Rattle.protocol_codes.specs.declared.Status.the-variants.{FAILED}
-use Rattle.promise.specs.Outcome.{orRefuse}
 use Rattle.promise.proofs.Outcome.{either-way}
 use Rattle.protocol_status.specs.StatusBytes.{readStatus}
 use Rattle.protocol_status.specs.declared.report.CommandStatus.{CommandStatus}

@@ -4,7 +4,7 @@ use mathlib.Core.Path.{_≡_}
 use mathlib.Core.List.{List, [], _∷_}
 use lib.ListN.{take}
 use Rattle.promise.specs.Told.{given, refused, andThen}
-use Rattle.promise.specs.Rules.{unless}
+use Rattle.promise.specs.Rules.{orRefuse}
 use Rattle.promise.specs.Bytes.{front, highFirst, lowFirst}
 use Rattle.protocol_codes.specs.Reading.{byNumber, known, statusOf}
 use Rattle.protocol_codes.specs.declared.Direction.the-variants.{In, Out}
@@ -29,5 +29,5 @@ unfolding commandBytes statusBytes highFirst lowFirst
 out-succeeds c e fits = rw e (reads-back (nothingMoved c) [] fits)
 
 pub in-refused : (c : CommandBlock) → c .flags ≡ In → readStatus (usbsAlone c) ≡ refused 7 (0x80 ∷ [])
-unfolding commandBytes highFirst lowFirst readStatus unless same statusOf known byNumber andThen
+unfolding commandBytes highFirst lowFirst readStatus orRefuse same statusOf known byNumber andThen
 in-refused c e = rw e

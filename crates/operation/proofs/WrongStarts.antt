@@ -4,7 +4,7 @@ use mathlib.Core.Path.{_≡_, refl, ap, sym, _∙_}
 use mathlib.Core.List.{List}
 use native.Mathlib.Omega.{arith}
 use Rattle.promise.specs.Told.{Told, given, refused}
-use Rattle.promise.specs.Rules.{unless}
+use Rattle.promise.specs.Rules.{orRefuse}
 use Rattle.protocol_codes.specs.declared.ResetOpcode.{ResetOpcode}
 use Rattle.protocol_codes.specs.declared.StorageIndex.{StorageIndex}
 use Rattle.protocol.specs.Commands.{chipInfoCommand, flashIdCommand, flashInfoCommand, capabilityCommand, storageCommand, eraseLbaCommand, eraseForceCommand, resetCommand, switchCommand, readLbaCommand, writeLbaCommand}
@@ -114,12 +114,12 @@ module _ (r : UsbStart) (first size : ℕ) where
 module _ (r : UsbStart) (tag first : ℕ) where
   -- a sector beside the refusal of a byte
   pub sector-beside-refusal : StartMeets r kind.Read (readLbaCommand tag first) 1 → r .operation .command .«cd_length» ≡ 1 → ⊥
-  unfolding sectorsOr0 sectorsIn unless
+  unfolding sectorsOr0 sectorsIn orRefuse
   sector-beside-refusal meets f = let z : _≡_ {A = ℕ} 0 1 = sym (ap (λ (o : UsbOperation). o .command .«cd_length») (meets .operation)) ∙ f in omega arith
 
   -- a start that refuses whole sectors
   pub always-refusing : (n : ℕ) (values : List ℕ) → StartMeets r kind.Write (writeLbaCommand tag first) 512 → sectorTold (r .answer) ≡ refused n values → ⊥
-  unfolding sectorsIn unless
+  unfolding sectorsIn orRefuse
   always-refusing n values meets f =
       let told : _≡_ {A = Told SectorCount} (refused n values) (given (record { 0 = 1 })) = sym f ∙ meets .tells in
       let z : _≡_ {A = ℕ} 0 1 = cc in omega arith

@@ -4,9 +4,8 @@ use mathlib.Core.Path.{_≡_}
 use mathlib.Core.List.{List, [], _∷_}
 use lib.Dec.{ltb}
 use Rattle.promise.specs.Told.{Told, given, refused, andThen}
-use Rattle.promise.specs.Rules.{Rule, rule}
+use Rattle.promise.specs.Rules.{Rule, rule, orRefuse}
 use Rattle.promise.specs.Bytes.{front}
-use Rattle.promise.specs.Outcome.{orRefuse}
 use Rattle.protocol_bytes.specs.Signature.{noSignature}
 use Rattle.protocol_bytes.specs.Writing.{tooShort, roomRule}
 use Rattle.protocol.specs.CommandBytes.{commandLength}

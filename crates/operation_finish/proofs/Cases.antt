@@ -5,7 +5,7 @@ use mathlib.Core.List.{List, []}
 use lib.ListN.{take}
 use borrow.Author.Tests.{lt-ltb, le-ltb, eq-eqb, ne-eqb}
 use Rattle.promise.specs.Told.{Told, given, refused, andThen}
-use Rattle.promise.specs.Rules.{unless}
+use Rattle.promise.specs.Rules.{orRefuse}
 use Rattle.protocol_codes.specs.declared.Status.the-variants.{SUCCESS, FAILED}
 use Rattle.protocol_bytes.specs.Signature.{noSignature, signatureIn}
 use Rattle.protocol_status.specs.StatusBytes.{readStatus}
@@ -53,11 +53,11 @@ unread-meets (InvalidStatus byte) failure g rest h e = record { tells = told-of 
 
 module _ (length residue : ℕ) where
   pub sectors-14 : length < residue → sectorReply length residue ≡ refused 14 []
-  unfolding sectorReply movedOf unless andThen
+  unfolding sectorReply movedOf orRefuse andThen
   sectors-14 h = rw (lt-ltb length residue h)
 
   pub sectors-moved : residue ≤ length → sectorReply length residue ≡ given (moved (record { 0 = length - residue }))
-  unfolding sectorReply movedOf unless andThen
+  unfolding sectorReply movedOf orRefuse andThen
   sectors-moved h = rw (le-ltb length residue h)
 
 -- a storage reply is what its first 4 bytes are read as
@@ -78,13 +78,13 @@ module _ (kind : Kind) (tag length : ℕ) (status inband : List ℕ) (s : Comman
 
   -- a failed status outranks a wrong tag, whatever the tags are
   pub finish-15 : s .status ≡ FAILED → finishes kind tag length status inband ≡ refused failedStatus []
-  unfolding judged unless failed
+  unfolding judged orRefuse failed
   finish-15 f = read ∙ rw f
 
   pub finish-10 : s .status ≡ SUCCESS → (s .tag ≡ tag → ⊥) → finishes kind tag length status inband ≡ refused tagMismatch []
-  unfolding judged unless failed
+  unfolding judged orRefuse failed
   finish-10 f h = read ∙ rw (f, ne-eqb (s .tag) tag h)
 
   pub finish-reply : s .status ≡ SUCCESS → s .tag ≡ tag → finishes kind tag length status inband ≡ replyOf kind length (s .residue) inband
-  unfolding judged unless failed
+  unfolding judged orRefuse failed
   finish-reply f h = read ∙ rw (f, eq-eqb (s .tag) tag h)

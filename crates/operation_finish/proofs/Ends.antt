@@ -7,7 +7,7 @@ use native.Mathlib.Omega.{arith}
 use lib.Dec.{eqb, ltb}
 use lib.ListN.{length, getD, take}
 use Rattle.promise.specs.Told.{Told, given, refused, number, andThen}
-use Rattle.promise.specs.Rules.{pick, unless}
+use Rattle.promise.specs.Rules.{orRefuse, pick}
 use Rattle.protocol_codes.specs.Numbers.{statusNumber, statuses}
 use Rattle.protocol_codes.specs.Reading.{statusOf}
 use Rattle.protocol_codes.specs.declared.Status.{Status}
@@ -37,7 +37,7 @@ moves-not true n e = omega arith
 moves-not false n e = omega arith
 
 sectors-not : (l residue : ℕ) → Not13 (sectorReply l residue)
-unfolding sectorReply movedOf unless
+unfolding sectorReply movedOf orRefuse
 sectors-not l residue = moves-not (ltb l residue) _
 
 place-not : (places : List ℕ) → Not13 (andThen (onlyPlace places) (λ index. given (storage index)))
@@ -63,7 +63,7 @@ not-given n values h = h
 
 module _ (k : Kind) (tag l : ℕ) (status inband : List ℕ) (long : length status ≡ 13) where
   judged-not : (s : CommandStatus) → Not13 (judged k tag l inband s)
-  unfolding judged unless
+  unfolding judged orRefuse
   judged-not s =
       either (failed (s .status)) _ _ (not-given 15 [] (λ e. omega arith))
       (either (not (eqb (s .tag) tag)) _ _ (not-given 10 [] (λ e. omega arith)) (reply-not k l (s .residue) inband))

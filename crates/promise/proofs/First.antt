@@ -1,22 +1,18 @@
--- Laws of `unless`: the first broken rule answers, every earlier rule being met.
+-- The first broken rule answers, every earlier rule being met.
+use Prim.Native.Nat.{ℕ}
 use mathlib.Core.Path.{_≡_, refl}
 use mathlib.Core.Bool.{Bool, true, false}
 use mathlib.Core.List.{List, [], _∷_, _++_}
-use Rattle.promise.specs.Told.{Told, given, refused}
-use Rattle.promise.specs.Rules.{Rule, rule, pick, unless}
+use Rattle.promise.specs.Rules.{Rule, rule, pick, orRefuse}
+use Rattle.promise.proofs.Outcome.{Met}
 
--- no rule of the list is broken
-pub AllMet : List Rule → Type 0
-AllMet [] = Unit
-AllMet (r ∷ rs) = (r .broken ≡ false) × AllMet rs
+pub all-met : {A : Type 0} (refuse : ℕ → List ℕ → A) (rules : List Rule) (done : A) → Met rules → orRefuse refuse rules done ≡ done
+unfolding orRefuse
+all-met refuse [] done h = refl
+all-met refuse (r ∷ rules) done h = rw (h .0) (all-met refuse rules done (h .1))
 
-pub all-met : {A : Type 0} (rs : List Rule) (t : Told A) → AllMet rs → unless rs t ≡ t
-unfolding unless AllMet
-all-met [] t h = refl
-all-met (r ∷ rs) t h = rw (h .0) (all-met rs t (h .1))
-
-pub first-broken : {A : Type 0} (earlier : List Rule) (r : Rule) (later : List Rule) (t : Told A)
-    → AllMet earlier → r .broken ≡ true → unless (earlier ++ r ∷ later) t ≡ refused (r .number) (r .values)
-unfolding unless AllMet
-first-broken [] r later t h b = rw b
-first-broken (e ∷ earlier) r later t h b = rw (h .0) (first-broken earlier r later t (h .1) b)
+pub first-broken : {A : Type 0} (refuse : ℕ → List ℕ → A) (earlier : List Rule) (r : Rule) (later : List Rule) (done : A)
+    → Met earlier → r .broken ≡ true → orRefuse refuse (earlier ++ r ∷ later) done ≡ refuse (r .number) (r .values)
+unfolding orRefuse
+first-broken refuse [] r later done h b = rw b
+first-broken refuse (e ∷ earlier) r later done h b = rw (h .0) (first-broken refuse earlier r later done (h .1) b)

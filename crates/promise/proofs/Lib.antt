@@ -1,10 +1,9 @@
--- Laws that more than one crate cites.
+-- `Order` has byte order read back, `Outcome` and `First` laws of an order of refusals, `Over` and `Copied` laws of a part put over a buffer, `Loop` what a
+-- loop over turns keeps, `Resumed` what holds of every run.
 pub mod Order
+pub mod Outcome
 pub mod First
--- Laws of a part put over a buffer, of a copy into a part, and of an outcome behind an order of refusals.
 pub mod Over
 pub mod Copied
-pub mod Outcome
--- `Loop` has what a loop over turns keeps, `Resumed` what holds of every run.
 pub mod Loop
 pub mod Resumed

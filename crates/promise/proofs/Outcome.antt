@@ -5,8 +5,7 @@ use native.Mathlib.Omega.{arith}
 use mathlib.Core.Bool.{Bool, true, false}
 use mathlib.Core.List.{List, [], _∷_, _++_}
 use Rattle.promise.specs.Told.{Told, given, refused}
-use Rattle.promise.specs.Rules.{Rule, pick, unless}
-use Rattle.promise.specs.Outcome.{orRefuse}
+use Rattle.promise.specs.Rules.{Rule, pick, unless, orRefuse}
 
 -- no rule of the list is broken
 abbrev pub Met : List Rule → Type 0
@@ -33,7 +32,7 @@ either-way P refuse (r ∷ rules) done f g =
 pub tells-as : {A B : Type 0} (told : A → Told B) (refuse : ℕ → List ℕ → A)
     → ((n : ℕ) (values : List ℕ) → told (refuse n values) ≡ refused n values)
     → (rules : List Rule) (done : A) → told (orRefuse refuse rules done) ≡ unless rules (told done)
-unfolding orRefuse unless
+unfolding orRefuse
 tells-as told refuse h [] done = refl
 tells-as told refuse h (r ∷ rules) done =
     by-test (λ t. told t ≡ pick (r .broken) (refused (r .number) (r .values)) (unless rules (told done))) (r .broken)
@@ -56,7 +55,7 @@ passed told refuse h (r ∷ rules) done b e =
 -- rules that are the first of more: a refusal by them is the refusal of all, and where they are met the rest decides
 pub unmet-first : {A B : Type 0} (refuse : ℕ → List ℕ → B) (rules more : List Rule) (value : A) (done : B) (n : ℕ) (values : List ℕ)
     → unless rules (given value) ≡ refused n values → orRefuse refuse (rules ++ more) done ≡ refuse n values
-unfolding unless orRefuse
+unfolding orRefuse
 unmet-first {A} refuse [] more value done n values e = absurd (let z : _≡_ {A = ℕ} 0 1 = cc in omega arith)
 unmet-first {A} refuse (r ∷ rules) more value done n values e =
     on-test (r .broken)
@@ -69,7 +68,7 @@ unmet-first {A} refuse (r ∷ rules) more value done n values e =
 
 pub met-first : {A B : Type 0} (refuse : ℕ → List ℕ → B) (rules more : List Rule) (value other : A) (done : B)
     → unless rules (given value) ≡ given other → orRefuse refuse (rules ++ more) done ≡ orRefuse refuse more done
-unfolding unless orRefuse
+unfolding orRefuse
 met-first refuse [] more value other done e = refl
 met-first {A} refuse (r ∷ rules) more value other done e =
     on-test (r .broken)

@@ -1,10 +1,8 @@
--- What all layers share. `Told` and `Rules` are the vocabulary of a promise, `Bytes` has byte order and what a buffer holds after a call.
+-- The vocabulary of every contract. `Told` is what an answer tells, `Rules` an order of refusals, `Bytes` byte order and a buffer's front, `Over` bytes put
+-- over a part of a buffer, `Does` what comes of a call and the shape of a promise, `Run` turns counted against a budget.
 pub mod Told
 pub mod Rules
 pub mod Bytes
-pub mod Does
--- What a call leaves: `Over` says it of a lent buffer, `Outcome` of everything that comes back, where an order of refusals stands before it.
 pub mod Over
-pub mod Outcome
--- A run with a budget, over any turn.
+pub mod Does
 pub mod Run

@@ -19,7 +19,11 @@ pub record Rule : Type 0 where
 abbrev pub rule : Bool → ℕ → List ℕ → Rule
 rule b n vs = record { broken = b; number = n; values = vs }
 
--- the first broken rule's refusal, or `answer` where none is broken
-unfoldable pub unless : {A : Type 0} → List Rule → Told A → Told A
-unless [] answer = answer
-unless (r ∷ rs) answer = pick (r .broken) (refused (r .number) (r .values)) (unless rs answer)
+-- what `refuse` makes of the first broken rule's number and values, or `done` where none is broken
+unfoldable pub orRefuse : {A : Type 0} → (ℕ → List ℕ → A) → List Rule → A → A
+orRefuse refuse [] done = done
+orRefuse refuse (r ∷ rules) done = pick (r .broken) (refuse (r .number) (r .values)) (orRefuse refuse rules done)
+
+-- the same, where what comes of it is what is told
+abbrev pub unless : {A : Type 0} → List Rule → Told A → Told A
+unless rules answer = orRefuse refused rules answer

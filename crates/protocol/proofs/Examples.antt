@@ -3,7 +3,7 @@ use mathlib.Core.Path.{_≡_, refl}
 use mathlib.Core.List.{_∷_}
 use lib.ListN.{replicate}
 use Rattle.promise.specs.Told.{given}
-use Rattle.promise.specs.Rules.{unless}
+use Rattle.promise.specs.Rules.{orRefuse}
 use Rattle.promise.specs.Bytes.{lowFirst, highFirst, front}
 use Rattle.protocol_bytes.specs.Writing.{Writing, writing}
 use Rattle.protocol.specs.Commands.{readLbaCommand}
@@ -21,5 +21,5 @@ unfolding writeCommand writing commandBytes lowFirst highFirst
 p1 = refl
 
 pub p1-told : command .told ≡ given 31
-unfolding writeCommand writing unless
+unfolding writeCommand writing orRefuse
 p1-told = refl

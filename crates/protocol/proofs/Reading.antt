@@ -6,7 +6,7 @@ use mathlib.Core.List.{List, [], _∷_}
 use borrow.Author.Tests.{lt-ltb, le-ltb}
 use lib.ListN.{length, getD, take}
 use Rattle.promise.specs.Told.{Told, given, refused, andThen}
-use Rattle.promise.specs.Rules.{unless}
+use Rattle.promise.specs.Rules.{orRefuse}
 use Rattle.protocol_codes.specs.Numbers.{directionNumber, directions, codeNumber, commandCodes}
 use Rattle.protocol_codes.specs.Reading.{directionOf, codeOf}
 use Rattle.protocol_codes.specs.declared.Direction.{Direction}
@@ -29,15 +29,15 @@ readFields bytes =
 
 module _ (bytes : List ℕ) where
   pub read-short : length bytes < 31 → readCommand bytes ≡ refused 1 (length bytes ∷ [])
-  unfolding readCommand unless
+  unfolding readCommand orRefuse
   read-short few = rw (lt-ltb (length bytes) 31 few) refl
 
   pub read-unsigned : 31 ≤ length bytes → same (take 4 bytes) usbc ≡ false → readCommand bytes ≡ refused 2 (take 4 bytes)
-  unfolding readCommand unless
+  unfolding readCommand orRefuse
   read-unsigned enough other = rw (le-ltb (length bytes) 31 enough, other) refl
 
   pub read-signed : 31 ≤ length bytes → same (take 4 bytes) usbc ≡ true → readCommand bytes ≡ readFields bytes
-  unfolding readCommand unless readFields
+  unfolding readCommand orRefuse readFields
   read-signed enough own = rw (le-ltb (length bytes) 31 enough, own) refl
 
   module _ (r : CommandParse) where

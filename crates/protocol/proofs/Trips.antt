@@ -8,7 +8,7 @@ use borrow.Author.Tests.{ltb-false, not-false}
 use lib.Dec.{ltb}
 use lib.ListN.{length, getD, take, set, length-append}
 use Rattle.promise.specs.Told.{Told, given, andThen}
-use Rattle.promise.specs.Rules.{rule, unless}
+use Rattle.promise.specs.Rules.{orRefuse, rule}
 use Rattle.promise.specs.Bytes.{lowFirst, highFirst, fromLow, fromHigh, field, AreBytes}
 use Rattle.promise.proofs.Order.{from-low-first, from-high-first}
 use Rattle.protocol_codes.specs.Numbers.{directionNumber, directions, codeNumber, commandCodes}
@@ -66,7 +66,7 @@ pub record Accepted (bytes : List ℕ) (b : CommandBlock) : Type 0 where
   pub fields : blockOf bytes (b .flags) (b .«cd_code») ≡ b
 
 pub accepted : (bytes : List ℕ) (b : CommandBlock) → readCommand bytes ≡ given b → Accepted bytes b
-unfolding readCommand unless directionOf codeOf blockOf
+unfolding readCommand orRefuse directionOf codeOf blockOf
 accepted bytes b h =
     let unsigned = rule (not (same (take 4 bytes) usbc)) 2 (take 4 bytes) in
     let coded : Direction → Told CommandBlock = λ direction. andThen (codeOf (getD bytes 15 0)) (λ (code : CommandCode). given (blockOf bytes direction code)) in

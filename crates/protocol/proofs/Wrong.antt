@@ -6,7 +6,7 @@ use native.Mathlib.Omega.{arith}
 use lib.Dec.{lit<, lit≤}
 use lib.ListN.{getD, length, replicate, take, drop}
 use Rattle.promise.specs.Told.{Told, given, refused, number}
-use Rattle.promise.specs.Rules.{unless}
+use Rattle.promise.specs.Rules.{orRefuse}
 use Rattle.promise.specs.Bytes.{lowFirst, highFirst}
 use Rattle.protocol_codes.specs.Numbers.{codeNumber}
 use Rattle.protocol_codes.specs.declared.Direction.{Direction}
@@ -193,12 +193,12 @@ lun-read-beside r b beside told meets =
 
 -- a writer for which 24 bytes are enough
 pub twenty-four-bytes-written : (b : CommandBlock) (n : ℕ) (before after : List ℕ) → WriteMeets (Bytes n) before after (writeCommand b 24) → ⊥
-unfolding writeCommand writing unless writtenTold
+unfolding writeCommand writing orRefuse writtenTold
 twenty-four-bytes-written b n before after meets = let z : _≡_ {A = ℕ} 0 1 = cc (meets .tells) in omega arith
 
 -- a writer that refuses every buffer
 pub every-buffer-refused : (b : CommandBlock) (before after : List ℕ) → WriteMeets TooShort before after (writeCommand b 31) → ⊥
-unfolding writeCommand writing unless writtenTold
+unfolding writeCommand writing orRefuse writtenTold
 every-buffer-refused b before after meets = let z : _≡_ {A = ℕ} 0 1 = cc (meets .tells) in omega arith
 
 -- a writer that puts the tag in the other order

@@ -6,19 +6,19 @@ use borrow.Author.Tests.{lt-ltb, le-ltb}
 use lib.ListN.{length, take, drop}
 use lib.Seq.{take-length}
 use Rattle.promise.specs.Told.{Told, given, refused}
-use Rattle.promise.specs.Rules.{unless}
+use Rattle.promise.specs.Rules.{orRefuse}
 use Rattle.protocol_bytes.specs.declared.output.Written.{Written}
 use Rattle.protocol_bytes.specs.declared.output.Written.the-variants.{Bytes, TooShort}
 use Rattle.protocol_bytes.specs.Writing.{writing, writtenTold, WriteMeets}
 
 module _ (whole : ℕ) (block before : List ℕ) where
   pub writes-nothing : length before < whole → WriteMeets TooShort before before (writing whole block (length before))
-  unfolding writing unless writtenTold
+  unfolding writing orRefuse writtenTold
   writes-nothing short = rw (lt-ltb (length before) whole short) (record { tells = refl; leaves = refl })
 
   pub writes-block : (after : List ℕ) → whole ≤ length before → after ≡ take (length block) block ++ drop (length block) before
       → WriteMeets (Bytes whole) before after (writing whole block (length before))
-  unfolding writing unless writtenTold
+  unfolding writing orRefuse writtenTold
   writes-block after enough e =
       rw (le-ltb (length before) whole enough)
       (record { tells = refl; leaves = e ∙ ap (λ (l : List ℕ). l ++ drop (length block) before) (take-length block) })

@@ -6,7 +6,7 @@ use mathlib.Core.List.{List, [], _∷_, reverse}
 use native.Mathlib.Omega.{arith}
 use lib.ListN.{getD, replicate, set}
 use Rattle.promise.specs.Told.{given, number}
-use Rattle.promise.specs.Rules.{unless}
+use Rattle.promise.specs.Rules.{orRefuse}
 use Rattle.promise.specs.Bytes.{fromLow, fromHigh, field}
 use Rattle.protocol_codes.specs.Reading.{byNumber, storageOf}
 use Rattle.protocol_codes.specs.declared.StorageIndex.{StorageIndex}
@@ -162,12 +162,12 @@ bit-counted-from-the-top e = let z : _≡_ {A = ℕ} 0 1 = cc in omega arith
 
 -- half a sector taken for one
 pub half-a-sector-taken : (r : SectorAnswer) (count : SectorCount) → sectorTold r ≡ given count → sectorTold r ≡ sectorsIn 256 → ⊥
-unfolding sectorsIn unless
+unfolding sectorsIn orRefuse
 half-a-sector-taken r count told meets = let z : _≡_ {A = ℕ} 0 1 = cc in omega arith
 
 -- one sector more than a command can name
 pub one-sector-too-many : (r : SectorAnswer) (count : SectorCount) → sectorTold r ≡ given count → sectorTold r ≡ sectorsIn 33554432 → ⊥
-unfolding sectorsIn unless
+unfolding sectorsIn orRefuse
 one-sector-too-many r count told meets = let z : _≡_ {A = ℕ} 0 1 = cc in omega arith
 
 -- `SectorAnswer::number` with one number for both refusals

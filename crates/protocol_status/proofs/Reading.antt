@@ -6,7 +6,7 @@ use mathlib.Core.List.{List, [], _∷_}
 use borrow.Author.Tests.{lt-ltb, le-ltb}
 use lib.ListN.{length, getD, take}
 use Rattle.promise.specs.Told.{given, refused, andThen}
-use Rattle.promise.specs.Rules.{unless}
+use Rattle.promise.specs.Rules.{orRefuse}
 use Rattle.protocol_codes.specs.Reading.{statusOf}
 use Rattle.protocol_codes.specs.Numbers.{statusNumber, statuses}
 use Rattle.protocol_codes.specs.declared.Status.{Status}
@@ -21,16 +21,16 @@ use Rattle.protocol_status.specs.Code.{parsed}
 
 module _ (bytes : List ℕ) where
   pub read-short : length bytes < 13 → readStatus bytes ≡ refused 5 (length bytes ∷ [])
-  unfolding readStatus unless
+  unfolding readStatus orRefuse
   read-short few = rw (lt-ltb (length bytes) 13 few) refl
 
   pub read-unsigned : 13 ≤ length bytes → same (take 4 bytes) usbs ≡ false → readStatus bytes ≡ refused 6 (take 4 bytes)
-  unfolding readStatus unless
+  unfolding readStatus orRefuse
   read-unsigned enough other = rw (le-ltb (length bytes) 13 enough, other) refl
 
   pub read-signed : 13 ≤ length bytes → same (take 4 bytes) usbs ≡ true
       → readStatus bytes ≡ andThen (statusOf (getD bytes 12 0)) (λ (status : Status). given (reportOf bytes status))
-  unfolding readStatus unless
+  unfolding readStatus orRefuse
   read-signed enough own = rw (le-ltb (length bytes) 13 enough, own) refl
 
   module _ (r : StatusParse) where

@@ -8,7 +8,7 @@ use borrow.Author.Tests.{ltb-false, not-false}
 use lib.Dec.{ltb}
 use lib.ListN.{length, getD, take, length-append}
 use Rattle.promise.specs.Told.{given, andThen}
-use Rattle.promise.specs.Rules.{rule, unless}
+use Rattle.promise.specs.Rules.{orRefuse, rule}
 use Rattle.promise.specs.Bytes.{lowFirst, highFirst, fromLow, fromHigh, field, AreBytes}
 use Rattle.promise.proofs.Order.{from-low-first, from-high-first}
 use Rattle.protocol_codes.specs.Numbers.{statusNumber, statuses}
@@ -43,7 +43,7 @@ pub record Accepted (bytes : List ℕ) (s : CommandStatus) : Type 0 where
   pub fields : reportOf bytes (s .status) ≡ s
 
 pub accepted : (bytes : List ℕ) (s : CommandStatus) → readStatus bytes ≡ given s → Accepted bytes s
-unfolding readStatus unless statusOf reportOf
+unfolding readStatus orRefuse statusOf reportOf
 accepted bytes s h =
     let unsigned = rule (not (same (take 4 bytes) usbs)) 6 (take 4 bytes) in
     let read = andThen (statusOf (getD bytes 12 0)) (λ (status : Status). given (reportOf bytes status)) in

@@ -6,7 +6,7 @@ use native.Mathlib.Omega.{arith}
 use lib.Dec.{lit<}
 use lib.ListN.{getD, length, replicate}
 use Rattle.promise.specs.Told.{Told, given, refused, number}
-use Rattle.promise.specs.Rules.{unless}
+use Rattle.promise.specs.Rules.{orRefuse}
 use Rattle.promise.specs.Bytes.{lowFirst, highFirst}
 use Rattle.protocol_codes.specs.declared.Status.the-variants.{SUCCESS}
 use Rattle.protocol_bytes.specs.declared.output.Written.{Written}
@@ -78,12 +78,12 @@ residue-in-the-other-order r told meets =
 
 -- a writer for which 12 bytes are enough
 pub twelve-bytes-written : (s : CommandStatus) (n : ℕ) (before after : List ℕ) → WriteMeets (Bytes n) before after (writeStatus s 12) → ⊥
-unfolding writeStatus writing unless writtenTold
+unfolding writeStatus writing orRefuse writtenTold
 twelve-bytes-written s n before after meets = let z : _≡_ {A = ℕ} 0 1 = cc (meets .tells) in omega arith
 
 -- a writer that refuses every buffer
 pub every-buffer-refused : (s : CommandStatus) (before after : List ℕ) → WriteMeets TooShort before after (writeStatus s 13) → ⊥
-unfolding writeStatus writing unless writtenTold
+unfolding writeStatus writing orRefuse writtenTold
 every-buffer-refused s before after meets = let z : _≡_ {A = ℕ} 0 1 = cc (meets .tells) in omega arith
 
 -- a writer that puts the tag in the other order

@@ -7,8 +7,7 @@ use native.Mathlib.Omega.{arith}
 use lib.ListN.{length}
 use borrow.Author.Tests.{eq-eqb, ne-eqb, lt-ltb, le-ltb}
 use Rattle.promise.specs.Told.{given}
-use Rattle.promise.specs.Rules.{Rule, pick}
-use Rattle.promise.specs.Outcome.{orRefuse}
+use Rattle.promise.specs.Rules.{Rule, pick, orRefuse}
 use Rattle.promise.proofs.Outcome.{unmet-first, met-first}
 use Rattle.protocol_bytes.specs.Signature.{noSignature, signatureIn}
 use Rattle.protocol_bytes.specs.Sector.{sectorSize}

@@ -7,7 +7,7 @@ use native.Mathlib.Omega.{arith}
 use lib.Dec.{lit≤}
 use lib.ListN.{length}
 use Rattle.promise.specs.Told.{given, refused, number}
-use Rattle.promise.specs.Rules.{unless}
+use Rattle.promise.specs.Rules.{orRefuse}
 use Rattle.promise.proofs.Outcome.{either-way}
 use Rattle.protocol_codes.specs.declared.Status.the-variants.{SUCCESS}
 use Rattle.protocol.specs.Commands.{eraseLbaCommand, readLbaCommand}
@@ -69,7 +69,7 @@ module _ (r : UsbRun) (device : MockState) (flash bytes : List ℕ) (store budge
   -- 61 told of a flash that is no whole number of sectors and has too many: 60 comes first
   pub sectors-before-size : (op : UsbOperation) (lent lent-data : List ℕ) → length lent ≡ 33554945 → RunMeets r flash bytes (usbRun (usbState op device lent lent-data) store budget)
       → r .answer ≡ answer.Ended (stop.Device error.TooManySectors) → ⊥
-  unfolding answerEnd stopTold errorValues sizeTold flashSectors flashRules unless
+  unfolding answerEnd stopTold errorValues sizeTold flashSectors flashRules orRefuse
   sectors-before-size op lent lent-data long meets e =
       let s = usbState op device lent lent-data in
       let told : sizeTold (size.Refused (error.FlashSize 33554945)) ≡ flashSectors (length lent) = ap flashSectors (sym long) in
@@ -80,7 +80,7 @@ module _ (r : UsbRun) (device : MockState) (flash bytes : List ℕ) (store budge
   -- 27 told where the store is of another length, too: 65 comes first
   pub data-before-store : (store ≡ device .«store_length» → ⊥) → RunMeets r flash bytes (usbRun (usbState ofSector device [] []) store budget)
       → r .answer ≡ answer.Ended stop.DataDiffers → ⊥
-  unfolding answerEnd stopTold flashSectors flashRules unless
+  unfolding answerEnd stopTold flashSectors flashRules orRefuse
   data-before-store other meets e =
       let run = store-refused (usbState ofSector device [] []) store budget 0 refl other in
       let clash : _≡_ {A = End Reply} (tells (refused 27 [])) (tells (refused 65 [])) = toldBy _ _ _ meets e (ap (λ (w : Ran Reply UsbState). w .end) run) in
@@ -88,14 +88,14 @@ module _ (r : UsbRun) (device : MockState) (flash bytes : List ℕ) (store budge
 
   -- a step taken with a store of another length
   pub store-unchecked : (store ≡ device .«store_length» → ⊥) → RunMeets r flash bytes (usbRun (usbState (atFinish erased) device [] []) store budget) → 1 ≤ r .steps → ⊥
-  unfolding flashSectors flashRules unless
+  unfolding flashSectors flashRules orRefuse
   store-unchecked other meets e =
       let none : r .steps ≡ 0 = meets .steps ∙ ap (λ (w : Ran Reply UsbState). w .steps) (store-refused (usbState (atFinish erased) device [] []) store budget 0 refl other) in
       omega arith
 
   module _ (stored : store ≡ device .«store_length») where
     at-the-finish : usbRun (usbState (atFinish erased) device [] []) store (suc budget) ≡ ran (tells (given nothing)) 1 (usbState (rearmed erased) device [] [])
-    unfolding runs follow sectorData flashSectors flashRules unless
+    unfolding runs follow sectorData flashSectors flashRules orRefuse
     at-the-finish =
         unrefused (usbState (atFinish erased) device [] []) store (suc budget) 0 refl stored (lit≤ tt)
         ∙ rw (turn-ends erased device [] [], erased-told)

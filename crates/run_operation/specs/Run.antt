@@ -3,8 +3,7 @@ use Prim.Native.Nat.{ℕ}
 use mathlib.Core.List.{List, [], _∷_, _++_}
 use lib.ListN.{length}
 use Rattle.promise.specs.Told.{refused}
-use Rattle.promise.specs.Rules.{Rule}
-use Rattle.promise.specs.Outcome.{orRefuse}
+use Rattle.promise.specs.Rules.{Rule, orRefuse}
 use Rattle.mock_base.specs.Flash.{flashRules}
 use Rattle.operation_finish.specs.Reply.{Reply}
 use Rattle.operation_finish.specs.declared.Kind.{Kind}

@@ -8,9 +8,8 @@ use lib.Dec.{ltb}
 use lib.ListN.{length}
 use borrow.Author.Tests.{ltb-false}
 use Rattle.promise.specs.Told.{Told, given, refused, andThen}
-use Rattle.promise.specs.Rules.{rule}
+use Rattle.promise.specs.Rules.{rule, orRefuse}
 use Rattle.promise.specs.Bytes.{highFirst, lowFirst}
-use Rattle.promise.specs.Outcome.{orRefuse}
 use Rattle.promise.proofs.Outcome.{either-way}
 use Rattle.protocol.specs.CommandBytes.{commandBytes}
 use Rattle.operation_finish.specs.Reply.{Reply}

@@ -5,7 +5,7 @@ use mathlib.Core.Bool.{Bool, true, false}
 use mathlib.Core.List.{List, []}
 use native.Mathlib.Omega.{arith}
 use Rattle.promise.specs.Told.{Told, given, refused, number, andThen}
-use Rattle.promise.specs.Outcome.{orRefuse}
+use Rattle.promise.specs.Rules.{orRefuse}
 use Rattle.protocol.specs.Commands.{readLbaCommand}
 use Rattle.mock_base.specs.declared.error.MockTransportError.the-variants as error
 use Rattle.operation_finish.specs.declared.Beside.{Beside}

@@ -7,8 +7,7 @@ use lib.Dec.{eqb}
 use lib.ListN.{length}
 use borrow.Author.Tests.{eq-eqb, ne-eqb}
 use Rattle.promise.specs.Told.{refused}
-use Rattle.promise.specs.Rules.{Rule, rule}
-use Rattle.promise.specs.Outcome.{orRefuse}
+use Rattle.promise.specs.Rules.{Rule, rule, orRefuse}
 use Rattle.promise.proofs.Outcome.{unmet-first, met-first}
 use Rattle.protocol_bytes.specs.Signature.{noSignature}
 use Rattle.protocol_bytes.specs.Sector.{sectorSize}

@@ -6,8 +6,7 @@ use mathlib.Core.List.{List, [], _∷_}
 use lib.ListN.{length}
 use lib.Dec.{leb, ltb, eqb}
 use Rattle.promise.specs.Told.{Told, given, refused}
-use Rattle.promise.specs.Rules.{pick}
-use Rattle.promise.specs.Outcome.{orRefuse}
+use Rattle.promise.specs.Rules.{pick, orRefuse}
 use Rattle.protocol_bytes.specs.Signature.{noSignature}
 use Rattle.mock_areas.specs.declared.Areas.{Areas}
 use Rattle.mock_areas.specs.Append.{Appending, appendStep, appendRules, appendedAt, refusedAppend}

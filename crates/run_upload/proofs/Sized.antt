@@ -7,7 +7,7 @@ use native.Mathlib.Omega.{arith}
 use lib.ListN.{length}
 use lib.Dec.{ltb, eqb}
 use Rattle.promise.specs.Told.{Told, given, refused, andThen}
-use Rattle.promise.specs.Rules.{pick, unless}
+use Rattle.promise.specs.Rules.{orRefuse, pick}
 use Rattle.maskrom_transfer.specs.declared.MaskRomSteps.{MaskRomSteps}
 use Rattle.maskrom_transfer.specs.declared.MaskRomSteps.the-variants.{Writing, Check, Dummy, Done}
 use Rattle.maskrom_transfer.specs.declared.Moved.{Moved}
@@ -48,7 +48,7 @@ sized-then false u w to = sized-does (u .steps) (u .area) (to .bytes) (sentOn u 
 
 pub whole-sized : (u : WholeUpload) (image : List ℕ) (room : ℕ) (c : Control) → said (wholeStep u image room) ≡ given (writes c)
     → c .size ≡ length (sent (wholeStep u image room))
-unfolding wholeStep sendsOn sendStep unless
+unfolding wholeStep sendsOn sendStep orRefuse
 whole-sized u image room =
     let w = chunk u image in
     let on = sendsOn u w room in

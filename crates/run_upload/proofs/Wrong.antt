@@ -6,7 +6,7 @@ use mathlib.Core.List.{List, [], _∷_}
 use native.Mathlib.Omega.{arith}
 use lib.ListN.{length}
 use Rattle.promise.specs.Told.{Told, given, refused, number, andThen}
-use Rattle.promise.specs.Rules.{unless}
+use Rattle.promise.specs.Rules.{orRefuse}
 use Rattle.promise.proofs.Outcome.{either-way}
 use Rattle.maskrom_transfer.specs.declared.MaskRomSteps.the-variants.{Writing, Done}
 use Rattle.promise.specs.Does.{said, sent, after}
@@ -50,11 +50,11 @@ state-onward (refused n values) s = refl
 
 module _ (device : MockState) (store : List ℕ) where
   turn-ends : loadTurn [] (loadState sentAll device store) ≡ ends (given tt) (loadState sentAll device store)
-  unfolding loadTurn carries wholeStep sendsOn sendStep unless andThen said sent after movesAt register asks most
+  unfolding loadTurn carries wholeStep sendsOn sendStep orRefuse andThen said sent after movesAt register asks most
   turn-ends = refl
 
   turn-differs : loadTurn [] (loadState ofOne device store) ≡ ends (refused 27 []) (loadState ofOne device store)
-  unfolding loadTurn carries wholeStep unless said sent after
+  unfolding loadTurn carries wholeStep orRefuse said sent after
   turn-differs = refl
 
   module _ (r : LoadTurned) (left : List ℕ) where
@@ -76,7 +76,7 @@ module _ (device : MockState) (store : List ℕ) where
 
     -- an upload that stays where it stood
     pub upload-stays : TurnMeets r left (loadTurn [] (loadState ofNothing device store)) → r .upload ≡ ofNothing → ⊥
-    unfolding loadTurn carries wholeStep sendsOn sendStep unless andThen said sent after movesAt writing register asks most
+    unfolding loadTurn carries wholeStep sendsOn sendStep orRefuse andThen said sent after movesAt writing register asks most
     upload-stays meets e =
         let s = loadState (r .upload) (r .device) left in
         let states : s ≡ _ = sym (state-for (r .turn) s) ∙ ap stateFor (meets .tells) ∙ state-onward _ _ in
@@ -116,7 +116,7 @@ a-step-too-many r image left flash budget s meets e =
 -- 61 told of a flash that is no whole number of sectors and has too many: 60 comes first
 pub sectors-before-size : (r : LoadRun) (image left : List ℕ) (budget : ℕ) (s : LoadState) → RunMeets r left (loadRun image 33554945 budget s)
     → r .answer ≡ answer.Ended (stop.Device error.TooManySectors) → ⊥
-unfolding answerEnd loadStopTold errorValues sizeTold flashSectors flashRules unless
+unfolding answerEnd loadStopTold errorValues sizeTold flashSectors flashRules orRefuse
 sectors-before-size r image left budget s meets e =
     let run = flash-refused image 33554945 budget s (size.Refused (error.FlashSize 33554945)) (error.FlashSize 33554945) refl refl in
     let clash : _≡_ {A = End Unit} (tells (refused 61 [])) (tells (refused 60 (33554945 ∷ []))) = ap answerEnd (sym e) ∙ meets .tells ∙ ap (λ w. w .end) run in
@@ -125,7 +125,7 @@ sectors-before-size r image left budget s meets e =
 module _ (r : LoadRun) (device : MockState) (left : List ℕ) (budget : ℕ) where
   -- 27 told where the store is of another length, too: 65 comes first
   pub image-before-store : device .«store_length» ≡ 0 → RunMeets r left (loadRun [] 0 budget (loadState ofOne device (0 ∷ []))) → r .answer ≡ answer.Ended stop.ImageDiffers → ⊥
-  unfolding answerEnd loadStopTold sizeTold flashSectors flashRules unless
+  unfolding answerEnd loadStopTold sizeTold flashSectors flashRules orRefuse
   image-before-store none meets e =
       let run = store-refused [] 0 budget (loadState ofOne device (0 ∷ [])) (size.Whole 0) 0 refl refl (λ h. omega arith) in
       let clash : _≡_ {A = End Unit} (tells (refused 27 [])) (tells (refused 65 [])) = ap answerEnd (sym e) ∙ meets .tells ∙ ap (λ w. w .end) run in
@@ -133,7 +133,7 @@ module _ (r : LoadRun) (device : MockState) (left : List ℕ) (budget : ℕ) whe
 
   module _ (store : List ℕ) (stored : length store ≡ device .«store_length») where
     at-the-finish : loadRun [] 0 (suc budget) (loadState sentAll device store) ≡ ran (tells (given tt)) 1 (loadState sentAll device store)
-    unfolding runs follow sizeTold flashSectors flashRules unless
+    unfolding runs follow sizeTold flashSectors flashRules orRefuse
     at-the-finish = unrefused [] 0 (suc budget) (loadState sentAll device store) (size.Whole 0) 0 refl refl stored refl ∙ rw (turn-ends device store)
 
     -- 28 told before the budget is used

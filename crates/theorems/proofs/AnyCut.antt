@@ -8,7 +8,7 @@ use native.Mathlib.Omega.{arith}
 use lib.ListN.{length, replicate, length-map, length-append, length-replicate}
 use native.Mathlib.Decide.{ℕ-discrete}
 use borrow.Author.Tests.{le-ltb, ne-eqb}
-use Rattle.promise.specs.Rules.{unless}
+use Rattle.promise.specs.Rules.{orRefuse}
 use Rattle.promise.specs.Told.{given}
 use Rattle.crc.specs.Check.{start}
 use Rattle.maskrom.specs.declared.WholeUpload.{WholeUpload}
@@ -61,7 +61,7 @@ how-many area checked image =
 -- a whole upload in its first state
 started : (area : ℕ) (checked : Bool) (image : List ℕ) → length image ≤ longest
     → startStep area checked image ≡ given (does tt [] (freshWhole area checked (length image)))
-unfolding startStep unless
+unfolding startStep orRefuse
 started area checked image l = rw (le-ltb longest (length image) l)
 
 -- a whole upload sends the transfers of its image

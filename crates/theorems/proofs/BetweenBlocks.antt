@@ -5,7 +5,7 @@ use mathlib.Core.Bool.{Bool, true, false}
 use mathlib.Core.List.{List, [], _∷_}
 use lib.ListN.{length, replicate}
 use Rattle.promise.specs.Told.{Told, given, refused}
-use Rattle.promise.specs.Rules.{unless}
+use Rattle.promise.specs.Rules.{orRefuse}
 use Rattle.mock_base.specs.Flash.{flashSectors, flashRules}
 use Rattle.protocol.specs.Commands.{chipInfoCommand, flashIdCommand, flashInfoCommand, capabilityCommand, storageCommand, eraseLbaCommand, eraseForceCommand, readLbaCommand, writeLbaCommand, resetCommand, switchCommand}
 use Rattle.operation_finish.specs.declared.Kind.the-variants as kind
@@ -90,7 +90,7 @@ deck-ready sectors tag (block ∷ blocks) h ready =
 
 -- the bench's own head: the Rust's default, a flash of 128 sectors and a store of any length
 pub fresh-ready : (flash store : List ℕ) → length flash ≡ 65536 → Ready 128 (head (freshState defaultConfig (length store)) flash store)
-unfolding freshState flashSectors flashRules unless
+unfolding freshState flashSectors flashRules orRefuse
 fresh-ready flash store e =
     record {
       stands = record { legal = ap flashSectors e; stored = refl; none = refl };

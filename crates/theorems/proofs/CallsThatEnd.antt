@@ -8,8 +8,7 @@ use lib.Dec.{eqb}
 use lib.ListN.{length, replicate}
 use borrow.Author.Tests.{eqb-true, not-false}
 use Rattle.promise.specs.Told.{given, refused}
-use Rattle.promise.specs.Rules.{rule}
-use Rattle.promise.specs.Outcome.{orRefuse}
+use Rattle.promise.specs.Rules.{rule, orRefuse}
 use Rattle.promise.proofs.Outcome.{by-test, either-way}
 use Rattle.protocol_codes.specs.declared.CommandCode.the-variants.{ReadFlashId, ReadFlashInfo, ReadChipInfo, ReadCapability, ReadLBA}
 use Rattle.protocol_codes.specs.declared.Direction.the-variants.{In}

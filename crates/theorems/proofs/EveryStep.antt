@@ -8,7 +8,7 @@ use native.Mathlib.Omega.{arith}
 use lib.ListN.{length}
 use borrow.Author.Tests.{lt-ltb}
 use Rattle.promise.specs.Told.{given, refused}
-use Rattle.promise.specs.Rules.{unless}
+use Rattle.promise.specs.Rules.{orRefuse}
 use Rattle.maskrom_transfer.specs.declared.MaskRomSteps.{MaskRomSteps}
 use Rattle.maskrom_transfer.specs.declared.MaskRomSteps.the-variants.{Done}
 use Rattle.maskrom.specs.declared.MaskRomOperation.{MaskRomOperation}
@@ -42,5 +42,5 @@ whole-repeats u image room e l h =
 -- beside a refused start stands a record at which the refused image differs
 pub refused-start : (area : ℕ) (checked : Bool) (image : List ℕ) (room : ℕ) → longest < length image → blockSize ≤ room
     → wholeStep (after (freshWhole area checked 0) (startStep area checked image)) image room ≡ refused differs []
-unfolding startStep unless after
+unfolding startStep orRefuse after
 refused-start area checked image room l h = rw (lt-ltb longest (length image) l) (whole-27 (freshWhole area checked 0) image room h (omega arith))

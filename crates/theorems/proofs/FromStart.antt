@@ -6,7 +6,7 @@ use native.Mathlib.Omega.{arith}
 use lib.ListN.{length, replicate}
 use borrow.Author.Tests.{eq-eqb, ne-eqb}
 use Rattle.promise.specs.Told.{Told, given, refused}
-use Rattle.promise.specs.Outcome.{orRefuse}
+use Rattle.promise.specs.Rules.{orRefuse}
 use Rattle.protocol.specs.declared.CommandBlock.{CommandBlock}
 use Rattle.protocol.proofs.Trips.{BlockFits, reads-back}
 use Rattle.operation_finish.specs.Reply.{Reply}

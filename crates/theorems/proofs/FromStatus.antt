@@ -7,7 +7,7 @@ use lib.ListN.{length, drop, replicate}
 use Rattle.promise.specs.Told.{Told, given, refused, andThen}
 use Rattle.promise.specs.Bytes.{front, highFirst, lowFirst}
 use Rattle.protocol_codes.specs.declared.Status.the-variants.{SUCCESS}
-use Rattle.promise.specs.Outcome.{orRefuse}
+use Rattle.promise.specs.Rules.{orRefuse}
 use Rattle.protocol_status.specs.StatusBytes.{statusBytes, readStatus}
 use Rattle.protocol_status.specs.declared.report.CommandStatus.{CommandStatus}
 use Rattle.protocol_status.proofs.Trips.{reads-back}

@@ -7,8 +7,7 @@ use lib.Dec.{eqb}
 use lib.ListN.{length, take, length-append, length-drop}
 use borrow.Author.Tests.{ltb-false}
 use Rattle.promise.specs.Told.{Told, given, refused, andThen}
-use Rattle.promise.specs.Rules.{unless}
-use Rattle.promise.specs.Outcome.{orRefuse}
+use Rattle.promise.specs.Rules.{orRefuse}
 use Rattle.promise.proofs.Outcome.{by-test, either-way}
 use Rattle.protocol_bytes.specs.Sector.{sectorSize}
 use Rattle.protocol.specs.declared.CommandBlock.{CommandBlock}
@@ -198,7 +197,7 @@ module _ (device : MockState) (flash sectors : ℕ) (legal : flashSectors flash 
 -- IDLE AGAIN. From a device with no transaction, an operation's run that is not out of steps leaves one with none, whatever it ends in
 pub run-idle : (s : UsbState) (store budget : ℕ) → s .device .«current_command» ≡ None → (usbRun s store budget .end ≡ outOfSteps → ⊥)
     → Idle (s .device) (length (s .flash)) (usbRun s store budget .state)
-unfolding usbRun runRules flashRules flashSectors unless
+unfolding usbRun runRules flashRules flashSectors orRefuse
 run-idle s store budget none =
     let n = length (s .flash) in
     let wants = sectorData (s .operation .kind) (transferLength (s .operation)) in

@@ -9,9 +9,8 @@ use lib.ListN.{length, take, drop, replicate}
 use lib.Seq.{take-at}
 use borrow.Author.Tests.{eq-eqb}
 use Rattle.promise.specs.Told.{Told, given, refused}
-use Rattle.promise.specs.Rules.{pick}
+use Rattle.promise.specs.Rules.{pick, orRefuse}
 use Rattle.promise.specs.Bytes.{lowFirst}
-use Rattle.promise.specs.Outcome.{orRefuse}
 use Rattle.promise.proofs.Outcome.{by-test}
 use Rattle.protocol_codes.specs.Numbers.{codeNumber}
 use Rattle.protocol_codes.specs.declared.CommandCode.{CommandCode}

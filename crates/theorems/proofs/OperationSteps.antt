@@ -8,8 +8,7 @@ use native.Mathlib.Omega.{arith}
 use lib.Dec.{eqb, ltb}
 use lib.ListN.{length, take}
 use Rattle.promise.specs.Told.{Told, given, refused, andThen}
-use Rattle.promise.specs.Rules.{pick, rule}
-use Rattle.promise.specs.Outcome.{orRefuse}
+use Rattle.promise.specs.Rules.{pick, rule, orRefuse}
 use Rattle.promise.proofs.Outcome.{either-way}
 use Rattle.protocol.specs.declared.CommandBlock.{CommandBlock}
 use Rattle.operation_finish.specs.Reply.{Reply}

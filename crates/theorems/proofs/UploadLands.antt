@@ -10,7 +10,7 @@ use lib.ListN.{length}
 use borrow.Author.Tests.{eq-eqb, eqb-true, not-false}
 use Rattle.promise.specs.Told.{Told, given}
 use Rattle.promise.specs.Over.{over}
-use Rattle.promise.specs.Outcome.{orRefuse}
+use Rattle.promise.specs.Rules.{orRefuse}
 use Rattle.promise.proofs.Outcome.{passed}
 use Rattle.maskrom.specs.Whole.{freshWhole}
 use Rattle.theorems.specs.UploadBytes.{uploadBytes, cut}

@@ -9,7 +9,7 @@ use lib.Dec.{leb, ltb}
 use lib.ListN.{length}
 use borrow.Author.Tests.{leb-false, ltb-false, eq-eqb}
 use Rattle.promise.specs.Told.{Told, given, refused}
-use Rattle.promise.specs.Outcome.{orRefuse}
+use Rattle.promise.specs.Rules.{orRefuse}
 use Rattle.promise.proofs.Over.{length-over}
 use Rattle.promise.proofs.Outcome.{by-test, either-way}
 use Rattle.maskrom_transfer.specs.Moves.{blockSize}

@@ -3,7 +3,7 @@ use borrow.Author.Needs.{needs}
 use borrow.Author.Tests.{lt-ltb, le-ltb}
 use denote.Ref.{now}
 use lib.ListN.{length}
-use Rattle.promise.specs.Rules.{unless}
+use Rattle.promise.specs.Rules.{orRefuse}
 use Rattle.maskrom.specs.Answers.{longest, startTold}
 use Rattle.promise.specs.Does.{said, after}
 use Rattle.maskrom.specs.Whole.{startStep}
@@ -11,13 +11,13 @@ use Rattle.maskrom.proofs.start_whole.Statement.{statement}
 use Rattle.maskrom.proofs.start_whole.Tie as tie
 
 returns : tie.Need-returns
-unfolding startStep unless said after startTold
+unfolding startStep orRefuse said after startTold
 returns c =
     let n = length (now (c .before .before .before .args .image)) in
     record { tells = rw (lt-ltb longest n (c .before .if1 .taken)); next = rw (lt-ltb longest n (c .before .if1 .taken)) (c .new-whole .ensures) }
 
 returns-2 : tie.Need-returns-2
-unfolding startStep unless said after startTold
+unfolding startStep orRefuse said after startTold
 returns-2 c =
     let n = length (now (c .before .before .before .args .image)) in
     record { tells = rw (le-ltb longest n (c .before .if1 .left)); next = rw (le-ltb longest n (c .before .if1 .left)) (c .new-whole2 .ensures) }

@@ -2,7 +2,7 @@
 use mathlib.Core.Path.{refl, ap}
 use mathlib.Core.List.{[]}
 use borrow.Author.Needs.{needs}
-use Rattle.promise.specs.Outcome.{orRefuse}
+use Rattle.promise.specs.Rules.{orRefuse}
 use Rattle.mock_base.specs.Told.{errorValues}
 use Rattle.mock_base.specs.declared.error.MockTransportError.the-variants.{UnexpectedRead}
 use Rattle.mock_table.specs.Turn.{isIn}

@@ -5,7 +5,7 @@ use mathlib.Core.List.{[], _∷_}
 use borrow.Author.Needs.{needs}
 use borrow.Author.Tests.{eq-eqb, ne-eqb}
 use Rattle.protocol_bytes.specs.Sector.{sectorSize}
-use Rattle.promise.specs.Outcome.{orRefuse}
+use Rattle.promise.specs.Rules.{orRefuse}
 use Rattle.mock_base.specs.Told.{errorValues}
 use Rattle.mock_base.specs.declared.error.MockTransportError.the-variants.{OutOfRange, InvalidTransferLength}
 use Rattle.mock_base.proofs.Fitting.{within, outside}

@@ -3,7 +3,7 @@ use mathlib.Core.Path.{refl, ap, sym, _∙_}
 use mathlib.Core.List.{[]}
 use borrow.Author.Needs.{needs}
 use borrow.Author.Tests.{not-true, not-false}
-use Rattle.promise.specs.Outcome.{orRefuse}
+use Rattle.promise.specs.Rules.{orRefuse}
 use Rattle.mock_base.specs.Told.{errorValues}
 use Rattle.mock_base.specs.declared.error.MockTransportError.the-variants.{UnexpectedWrite}
 use Rattle.mock_table.specs.Turn.{isOut}

@@ -3,23 +3,23 @@ use Prim.Native.Nat.{_/_, _%_}
 use mathlib.Core.Path.{refl}
 use borrow.Author.Needs.{needs}
 use borrow.Author.Tests.{eq-eqb, ne-eqb, lt-ltb, le-ltb}
-use Rattle.promise.specs.Rules.{unless}
+use Rattle.promise.specs.Rules.{orRefuse}
 use Rattle.protocol_reply.specs.Sectors.{sectorsIn, sectorTold}
 use Rattle.protocol_reply.proofs.size.sector_count.Statement.{statement}
 use Rattle.protocol_reply.proofs.size.sector_count.Tie as tie
 
 returns : tie.Need-returns
-unfolding unless sectorsIn sectorTold
+unfolding orRefuse sectorsIn sectorTold
 returns c = rw (ne-eqb (c .before .args .length % 512) 0 (c .if1 .taken)) refl
 
 returns-2 : tie.Need-returns-2
-unfolding unless sectorsIn sectorTold
+unfolding orRefuse sectorsIn sectorTold
 returns-2 c =
     let n = c .before .before .args .length in
     rw (eq-eqb (n % 512) 0 (c .before .if1 .left), lt-ltb 65535 (n / 512) (c .if2 .taken)) refl
 
 returns-3 : tie.Need-returns-3
-unfolding unless sectorsIn sectorTold
+unfolding orRefuse sectorsIn sectorTold
 returns-3 c =
     let n = c .before .before .args .length in
     rw (eq-eqb (n % 512) 0 (c .before .if1 .left), le-ltb 65535 (n / 512) (c .if2 .left)) refl

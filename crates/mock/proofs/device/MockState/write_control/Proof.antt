@@ -6,7 +6,7 @@ use lib.ListN.{length}
 use borrow.Author.Needs.{needs}
 use borrow.Author.Tests.{eq-eqb, ne-eqb, not-true, not-false}
 use Rattle.promise.specs.Told.{refused}
-use Rattle.promise.specs.Outcome.{orRefuse}
+use Rattle.promise.specs.Rules.{orRefuse}
 use Rattle.mock_base.specs.Told.{errorValues}
 use Rattle.mock_base.specs.declared.error.MockTransportError.the-variants.{UnsupportedControl, StoreLength}
 use Rattle.mock_base.proofs.Telling.{answers-error}
