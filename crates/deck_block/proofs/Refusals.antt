@@ -1,33 +1,21 @@
 -- A block is refused by 40 to 45 and by nothing else.
 use Prim.Native.Nat.{ℕ}
-use mathlib.Core.Path.{_≡_, refl}
-use mathlib.Core.Bool.{Bool, true, false, not}
-use mathlib.Core.List.{List, [], _∷_}
+use mathlib.Core.Path.{refl}
+use mathlib.Core.Bool.{not}
+use mathlib.Core.List.{List, []}
 use borrow.Author.Tests.{not-false}
 use lib.ListN.{length}
 use lib.Dec.{eqb, ltb}
 use Rattle.promise.specs.Told.{Told, given, refused}
-use Rattle.promise.specs.Rules.{orRefuse, pick}
+use Rattle.promise.specs.Rules.{orRefuse}
 use Rattle.promise.specs.Bytes.{field}
 use Rattle.promise.proofs.Outcome.{by-test}
 use Rattle.protocol_codes.specs.declared.ResetOpcode.{ResetOpcode}
 use Rattle.protocol_codes.specs.Reading.{resetOf}
-use Rattle.deck_block.specs.declared.Request.{Request}
 use Rattle.deck_block.specs.Block.{blockLength, fieldsOf, blockCheck, allZero, isKind, tooLarge}
 use Rattle.deck_block.specs.Reading.{asksReset, resetRequest, readCard}
 use Rattle.deck_block.proofs.ByKind.{by-kind}
-
--- a number of the list
-abbrev pub isAmong : ℕ → List ℕ → Bool
-isAmong n [] = false
-isAmong n (m ∷ ms) = pick (eqb n m) true (isAmong n ms)
-
-abbrev pub blockRefusals : List ℕ
-blockRefusals = 40 ∷ 41 ∷ 42 ∷ 43 ∷ 44 ∷ 45 ∷ []
-
-abbrev pub CardTold : Told Request → Type 0
-CardTold (given r) = Unit
-CardTold (refused n values) = isAmong n blockRefusals ≡ true
+use Rattle.deck_block.specs.Refusals.{CardTold}
 
 reset-told : (told : Told ResetOpcode) → CardTold (asksReset told)
 unfolding asksReset

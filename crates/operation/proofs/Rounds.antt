@@ -16,21 +16,11 @@ use Rattle.operation.specs.declared.steps.Operation.the-variants as oper
 use Rattle.operation.specs.declared.steps.IOBytes.{IOBytes}
 use Rattle.operation.specs.declared.steps.IOBytes.the-variants as io
 use Rattle.operation.specs.declared.steps.UsbOperation.{UsbOperation}
-use Rattle.operation.specs.Record.{fresh, ioOf, transferLength, afterCommand}
+use Rattle.operation.specs.Record.{fresh, ioOf, transferLength, afterCommand, leftAt, left}
 use Rattle.operation.specs.Step.{Step, ioStep, statusStep, stepOf, usbStep}
 use Rattle.operation.specs.Give.{usbGive}
 use Rattle.operation.proofs.Cases.{command-out}
 use Rattle.operation.proofs.Laws.{data-inband, data-read, data-write, give-keeps}
-
--- the steps from there to the finish, with it: "3 or 4 for an unrefused operation"
-unfoldable pub leftAt : Operation → ℕ → ℕ
-leftAt operation.CommandBlock l = pick (eqb l 0) 3 4
-leftAt operation.IO l = 3
-leftAt operation.CommandStatus l = 2
-leftAt operation.Finish l = 1
-
-abbrev pub left : UsbOperation → ℕ
-left op = leftAt (op .next) (transferLength op)
 
 -- a fresh operation takes 3 steps, or 4 with data
 pub fresh-without : (kind : Kind) (command : CommandBlock) → command .«transfer_length» ≡ 0 → left (fresh kind command) ≡ 3

@@ -12,9 +12,9 @@ use Rattle.protocol_codes.specs.declared.Status.the-variants.{SUCCESS}
 use Rattle.protocol_bytes.specs.Signature.{usbs, same}
 use Rattle.protocol.specs.CommandBytes.{commandBytes}
 use Rattle.protocol.specs.declared.CommandBlock.{CommandBlock}
-use Rattle.protocol_status.specs.StatusBytes.{statusBytes, readStatus}
+use Rattle.protocol_status.specs.StatusBytes.{statusBytes, readStatus, StatusFits}
 use Rattle.protocol_status.specs.declared.report.CommandStatus.{CommandStatus}
-use Rattle.protocol_status.proofs.Trips.{StatusFits, reads-back}
+use Rattle.protocol_status.proofs.Trips.{reads-back}
 
 -- what stands there once `USBS` is given
 abbrev pub usbsAlone : CommandBlock → List ℕ

@@ -6,8 +6,8 @@ use Rattle.protocol_codes.specs.declared.ResetOpcode.{ResetOpcode}
 use Rattle.protocol_codes.specs.declared.StorageIndex.{StorageIndex}
 use Rattle.protocol.specs.Commands.{chipInfoCommand, flashIdCommand, flashInfoCommand, capabilityCommand, storageCommand, eraseLbaCommand, eraseForceCommand, resetCommand, switchCommand, readLbaCommand, writeLbaCommand}
 use Rattle.operation_finish.specs.declared.Kind.the-variants as kind
-use Rattle.operation.specs.Record.{fresh}
-use Rattle.operation.proofs.Rounds.{leftAt, left, fresh-with}
+use Rattle.operation.specs.Record.{fresh, leftAt, left}
+use Rattle.operation.proofs.Rounds.{fresh-with}
 
 -- a reply comes in a step of its own
 module _ (tag : ℕ) where

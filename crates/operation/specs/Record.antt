@@ -97,3 +97,13 @@ commandOut op = commandBytes (op .command) ++ replicate 7 0
 -- the command is out: the status will be read over its first 13 bytes
 abbrev pub commanded : UsbOperation → UsbOperation
 commanded op = turned (withStatus op (take statusSize (commandBytes (op .command)))) (afterCommand (transferLength op)) asked.Nothing
+
+-- the steps from there to the finish, with it: "3 or 4 for an unrefused operation"
+unfoldable pub leftAt : Operation → ℕ → ℕ
+leftAt operation.CommandBlock l = pick (eqb l 0) 3 4
+leftAt operation.IO l = 3
+leftAt operation.CommandStatus l = 2
+leftAt operation.Finish l = 1
+
+abbrev pub left : UsbOperation → ℕ
+left op = leftAt (op .next) (transferLength op)

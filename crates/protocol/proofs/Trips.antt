@@ -23,8 +23,7 @@ use Rattle.protocol_bytes.proofs.Short.{elements, field-elements}
 use Rattle.protocol_bytes.proofs.Rewritten.{low-rewritten, high-rewritten}
 use Rattle.protocol_bytes.proofs.Given.{rule-met, first-given}
 use Rattle.protocol.specs.declared.CommandBlock.{CommandBlock}
-use Rattle.protocol.specs.CommandBytes.{commandBytes, blockOf, readCommand}
-pub use Rattle.protocol.specs.CommandBytes.{BlockFits}
+use Rattle.protocol.specs.CommandBytes.{commandBytes, blockOf, readCommand, BlockFits}
 use Rattle.protocol.proofs.Reading.{readFields, read-signed}
 
 -- the same block but for its fields of several bytes

@@ -22,8 +22,7 @@ use Rattle.protocol_bytes.proofs.Short.{elements, field-elements}
 use Rattle.protocol_bytes.proofs.Rewritten.{low-rewritten, high-rewritten}
 use Rattle.protocol_bytes.proofs.Given.{rule-met, first-given}
 use Rattle.protocol_status.specs.declared.report.CommandStatus.{CommandStatus}
-use Rattle.protocol_status.specs.StatusBytes.{statusBytes, reportOf, readStatus}
-pub use Rattle.protocol_status.specs.StatusBytes.{StatusFits}
+use Rattle.protocol_status.specs.StatusBytes.{statusBytes, reportOf, readStatus, StatusFits}
 use Rattle.protocol_status.proofs.Reading.{read-signed}
 
 pub reads-back : (s : CommandStatus) (behind : List ℕ) → StatusFits s → readStatus (statusBytes s ++ behind) ≡ given s

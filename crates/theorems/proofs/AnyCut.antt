@@ -14,7 +14,7 @@ use Rattle.crc.specs.Check.{start}
 use Rattle.maskrom.specs.declared.WholeUpload.{WholeUpload}
 use Rattle.maskrom_transfer.specs.Moves.{blockSize, register}
 use Rattle.maskrom.specs.Answers.{longest}
-use Rattle.theorems.specs.UploadBytes.{pad, lastZero, uploadBytes, cut}
+use Rattle.theorems.specs.UploadBytes.{pad, lastZero, uploadBytes, cut, total}
 use Rattle.promise.specs.Does.{does, said, after}
 use Rattle.maskrom.specs.PartWise.{fresh}
 use Rattle.maskrom.specs.Whole.{freshWhole, startStep, wholeStep}
@@ -39,10 +39,6 @@ any-cut area checked image parts out e l h =
     (ap (λ (l : List ℕ). l ++ ending checked (register checked start l) (0 + length l)) e
     ∙ ap (λ (k : ℕ). image ++ ending checked (register checked start image) k) (zero-add (length image))
     ∙ sym (upload-ending checked image))
-
--- the length of an upload, T, by the image's
-unfoldable pub total : ℕ → ℕ
-total n = n + (length (pad n) + (2 + length (lastZero n)))
 
 pub upload-length : (checked : Bool) (image : List ℕ) → length (uploadBytes checked image) ≡ total (length image)
 unfolding total

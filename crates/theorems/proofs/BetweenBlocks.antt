@@ -11,25 +11,22 @@ use Rattle.protocol.specs.Commands.{chipInfoCommand, flashIdCommand, flashInfoC
 use Rattle.operation_finish.specs.declared.Kind.the-variants as kind
 use Rattle.operation.specs.declared.steps.UsbOperation.{UsbOperation}
 use Rattle.operation.specs.Record.{fresh}
-use Rattle.mock_base.specs.declared.config.MockDeviceConfig.{MockDeviceConfig}
 use Rattle.mock.specs.declared.device.MockState.{MockState}
 use Rattle.mock_base.specs.Config.{defaultConfig}
 use Rattle.mock.specs.Device.{freshState}
 use Rattle.run_turn.specs.Turn.{usbState}
 use Rattle.run_upload.specs.Load.{uploadBudget}
-use Rattle.theorems.proofs.BetweenRuns.{Standing, operation-stands, upload-stands}
+use Rattle.theorems.proofs.BetweenRuns.{operation-stands, upload-stands}
+use Rattle.theorems.specs.Standing.{Sized}
 use Rattle.theorems.proofs.NoTransactionLeft.{whole-idle}
 use Rattle.theorems.proofs.UploadKeeps.{upload-keeps}
-use Rattle.theorems.proofs.OperationEnds.{Sized, default-sized}
+use Rattle.theorems.proofs.OperationEnds.{default-sized}
 use Rattle.deck_block.specs.declared.Request.{Request}
 use Rattle.deck_block.specs.declared.Request.the-variants as request
 use Rattle.deck_block.specs.Reading.{readCard}
 use Rattle.deck.specs.Deal.{Head, head}
 use Rattle.deck.specs.Dealing.{operate, loadOf, load, carryOut, dealAsked, dealBlock}
-
-pub record Ready (sectors : ℕ) (h : Head) : Type 0 where
-  pub stands : Standing (h .device) (h .flash) (length (h .store)) sectors
-  pub sized : Sized (h .device .config)
+use Rattle.theorems.specs.Deck.{Ready, afterDeck}
 
 module _ (sectors : ℕ) (h : Head) (ready : Ready sectors h) where
   operated : (op : UsbOperation) (bytes : List ℕ) → Ready sectors (operate op bytes h .leaves)
@@ -75,12 +72,6 @@ module _ (sectors : ℕ) (h : Head) (ready : Ready sectors h) where
   pub block-ready : (tag : ℕ) (block : List ℕ) → Ready sectors (dealBlock tag block h .leaves)
   unfolding dealBlock
   block-ready tag block = dealt tag (readCard tag block)
-
--- the head after a deck, whose first block has the tag after `tag`
-unfoldable pub afterDeck : ℕ → List (List ℕ) → Head → Head
-afterDeck tag [] h = h
-afterDeck tag (block ∷ blocks) h =
-    afterDeck ((tag + 1) % 2 ^ 32) blocks (dealBlock ((tag + 1) % 2 ^ 32) block h .leaves)
 
 pub deck-ready : (sectors tag : ℕ) (blocks : List (List ℕ)) (h : Head) → Ready sectors h → Ready sectors (afterDeck tag blocks h)
 unfolding afterDeck

@@ -1,25 +1,18 @@
 -- What holds of the device between one run and the next: it has no transaction, and what it is lent is as long as ever.
 use Prim.Native.Nat.{ℕ}
-use mathlib.Core.Path.{_≡_, ap, sym, _∙_}
+use mathlib.Core.Path.{ap, sym, _∙_}
 use mathlib.Core.Bool.{Bool}
 use mathlib.Core.List.{List}
 use lib.ListN.{length}
-use Rattle.promise.specs.Told.{given}
 use Rattle.operation.specs.declared.steps.UsbOperation.{UsbOperation}
 use Rattle.mock_base.specs.Flash.{flashSectors}
-use Rattle.mock_table.specs.declared.session.CommandState.the-variants.{None}
 use Rattle.mock.specs.declared.device.MockState.{MockState}
 use Rattle.run_turn.specs.Turn.{usbState}
 use Rattle.run_operation.specs.Run.{usbRun, wholeBudget}
-use Rattle.theorems.proofs.UploadTransfers.{uploadRun}
+use Rattle.theorems.specs.Runs.{uploadRun}
 use Rattle.theorems.proofs.UploadKeeps.{upload-keeps}
 use Rattle.theorems.proofs.NoTransactionLeft.{whole-idle}
-
--- a device with no transaction, lent a flash of so many sectors and a store of its own length
-pub record Standing (device : MockState) (flash : List ℕ) (store sectors : ℕ) : Type 0 where
-  pub legal : flashSectors (length flash) ≡ given sectors
-  pub stored : store ≡ device .«store_length»
-  pub none : device .«current_command» ≡ None
+use Rattle.theorems.specs.Standing.{Standing}
 
 module _ (device : MockState) (flash : List ℕ) (sectors : ℕ) where
   -- after one whole operation, whatever it was and ended in

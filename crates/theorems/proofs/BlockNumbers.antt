@@ -1,16 +1,12 @@
 -- Block k has number k, in 64 bits, and tag k, in 32: refused or not.
 use Prim.Native.Nat.{ℕ, _+_, _%_, _^_}
-use mathlib.Core.Path.{_≡_, ap, _∙_}
+use mathlib.Core.Path.{_≡_, _∙_}
 use mathlib.Core.List.{List}
 use native.Mathlib.Omega.{arith}
 use Rattle.deck.specs.declared.bench.Bench.{Bench}
 use Rattle.deck.specs.declared.bench.DeckStep.{DeckStep}
-use Rattle.deck.specs.Bench.{nextTag, nextNumber, StepMeets}
-
--- what the counters of a bench say after k blocks
-pub record Counts (k : ℕ) (bench : Bench) : Type 0 where
-  pub number : bench .number ≡ k % 2 ^ 64
-  pub tag : bench .tag ≡ k % 2 ^ 32
+use Rattle.deck.specs.Bench.{StepMeets}
+use Rattle.theorems.specs.Deck.{Counts}
 
 next-number : (k n : ℕ) → n ≡ k % 2 ^ 64 → (n + 1) % 2 ^ 64 ≡ (k + 1) % 2 ^ 64
 next-number k n e = omega arith

@@ -1,6 +1,6 @@
 -- The bench meets no refusals but 40 to 45, 53, 54, 57, 58 and 59.
 use Prim.Native.Nat.{ℕ, _*_, _^_, _<_, _≤_}
-use mathlib.Core.Path.{_≡_, refl, ap, sym, subst, _∙_}
+use mathlib.Core.Path.{_≡_, refl, ap, subst}
 use mathlib.Core.Bool.{Bool, true, false}
 use mathlib.Core.List.{List, [], _∷_, _++_}
 use native.Mathlib.Omega.{arith}
@@ -15,30 +15,21 @@ use Rattle.operation_finish.specs.Reply.{Reply}
 use Rattle.operation_finish.specs.declared.Kind.{Kind}
 use Rattle.operation_finish.specs.declared.Kind.the-variants as kind
 use Rattle.operation.specs.Record.{fresh}
-use Rattle.promise.specs.Run.{endTold}
-use Rattle.theorems.proofs.UploadRefusals.{UploadTold, accepted, no-slot, slot-full, whole-upload-told}
+use Rattle.theorems.proofs.UploadRefusals.{whole-upload-told}
+use Rattle.theorems.specs.Told.{UploadTold, accepted, no-slot, slot-full}
 use Rattle.theorems.proofs.OperationTold as told
+use Rattle.theorems.specs.Told as ends
 use Rattle.deck_block.specs.declared.Request.{Request}
 use Rattle.deck_block.specs.declared.Request.the-variants as request
 use Rattle.deck_block.specs.Reading.{readCard}
 use Rattle.deck_block.proofs.ByKind.{passed-rules}
 use Rattle.deck_block.proofs.Fitting.{Named, asked-named}
-use Rattle.deck_block.proofs.Refusals.{isAmong, blockRefusals, CardTold, card-told}
+use Rattle.deck_block.proofs.Refusals.{card-told}
+use Rattle.deck_block.specs.Refusals.{isAmong, blockRefusals, CardTold}
 use Rattle.deck.specs.Verdict.{numbered, loadTold}
 use Rattle.deck.specs.Deal.{Head}
 use Rattle.deck.specs.Dealing.{operate, loadOf, load, carryOut, dealAsked, dealBlock}
-use Rattle.theorems.proofs.BetweenBlocks.{Ready}
-
--- of what a block asks for, and of the block itself
-abbrev pub doneRefusals : List ℕ
-doneRefusals = 53 ∷ 54 ∷ 57 ∷ 58 ∷ 59 ∷ []
-
-abbrev pub benchRefusals : List ℕ
-benchRefusals = blockRefusals ++ doneRefusals
-
-abbrev pub BenchTold : Told Reply → Type 0
-BenchTold (given reply) = Unit
-BenchTold (refused n values) = isAmong n benchRefusals ≡ true
+use Rattle.theorems.specs.Deck.{Ready, doneRefusals, BenchTold}
 
 either : (t a b : Bool) → (a ≡ true → b ≡ true) → pick t true a ≡ true → pick t true b ≡ true
 either true a b f e = refl
@@ -48,12 +39,12 @@ among-more : (n : ℕ) (xs ys : List ℕ) → isAmong n xs ≡ true → isAmong 
 among-more n [] ys h = let z : _≡_ {A = ℕ} 0 1 = ap (λ (b : Bool). pick b 1 0) h in absurd (omega arith)
 among-more n (x ∷ xs) ys h = either (eqb n x) (isAmong n xs) (isAmong n (xs ++ ys)) (among-more n xs ys) h
 
-operation-numbered : (t : Told Reply) → told.OperationTold t → BenchTold (numbered t)
+operation-numbered : (t : Told Reply) → ends.OperationTold t → BenchTold (numbered t)
 unfolding numbered
-operation-numbered t (told.replies reply) = tt
-operation-numbered t (told.unknown values) = refl
-operation-numbered t told.unexpected = refl
-operation-numbered t told.out-of-range = refl
+operation-numbered t (ends.replies reply) = tt
+operation-numbered t (ends.unknown values) = refl
+operation-numbered t ends.unexpected = refl
+operation-numbered t ends.out-of-range = refl
 
 upload-numbered : (t : Told Unit) → UploadTold t → BenchTold (loadTold t)
 unfolding loadTold
@@ -62,7 +53,7 @@ upload-numbered t no-slot = refl
 upload-numbered t slot-full = refl
 
 module _ (sectors : ℕ) (h : Head) (ready : Ready sectors h) where
-  operated : (k : Kind) (c : CommandBlock) (bytes : List ℕ) → told.Started (length bytes) k c → BenchTold (operate (fresh k c) bytes h .told)
+  operated : (k : Kind) (c : CommandBlock) (bytes : List ℕ) → ends.Started (length bytes) k c → BenchTold (operate (fresh k c) bytes h .told)
   unfolding operate
   operated k c bytes started =
       operation-numbered _ (told.operation-told (h .device) (h .flash) bytes (length (h .store)) sectors (ready .stands) k c (ready .sized) started)
@@ -78,19 +69,19 @@ module _ (sectors : ℕ) (h : Head) (ready : Ready sectors h) where
 
   carried : (tag : ℕ) (asked : Request) → tag < 256 ^ 4 → Named asked → BenchTold (carryOut tag asked h .told)
   unfolding carryOut
-  carried tag request.ChipInfo small named = operated kind.ChipInfo (chipInfoCommand tag) [] (told.chip-info tag small)
-  carried tag request.FlashId small named = operated kind.FlashId (flashIdCommand tag) [] (told.flash-id tag small)
-  carried tag request.FlashInfo small named = operated kind.FlashInfo (flashInfoCommand tag) [] (told.flash-info tag small)
-  carried tag request.Capability small named = operated kind.Capability (capabilityCommand tag) [] (told.capability tag small)
-  carried tag (request.EraseLba first count) small named = operated kind.Nothing (eraseLbaCommand tag first count) [] (told.erase-lba tag first count small (named .0) (named .1))
-  carried tag (request.EraseForce first count) small named = operated kind.Nothing (eraseForceCommand tag first count) [] (told.erase-force tag first count small (named .0) (named .1))
+  carried tag request.ChipInfo small named = operated kind.ChipInfo (chipInfoCommand tag) [] (ends.chip-info tag small)
+  carried tag request.FlashId small named = operated kind.FlashId (flashIdCommand tag) [] (ends.flash-id tag small)
+  carried tag request.FlashInfo small named = operated kind.FlashInfo (flashInfoCommand tag) [] (ends.flash-info tag small)
+  carried tag request.Capability small named = operated kind.Capability (capabilityCommand tag) [] (ends.capability tag small)
+  carried tag (request.EraseLba first count) small named = operated kind.Nothing (eraseLbaCommand tag first count) [] (ends.erase-lba tag first count small (named .0) (named .1))
+  carried tag (request.EraseForce first count) small named = operated kind.Nothing (eraseForceCommand tag first count) [] (ends.erase-force tag first count small (named .0) (named .1))
   carried tag (request.ReadLba first count) small named =
-      operated kind.Read (readLbaCommand tag first count) (replicate (count * 512) 0) (told.read tag first count small (named .0) (named .1) (lent count 0))
+      operated kind.Read (readLbaCommand tag first count) (replicate (count * 512) 0) (ends.read tag first count small (named .0) (named .1) (lent count 0))
   carried tag (request.WriteLba first count fill) small named =
-      operated kind.Write (writeLbaCommand tag first count) (replicate (count * 512) fill) (told.write tag first count small (named .0) (named .1) (lent count fill))
-  carried tag (request.ResetDevice opcode) small named = operated kind.Nothing (resetCommand tag opcode) [] (told.reset tag opcode small)
-  carried tag request.Storage small named = operated kind.Storage (storageCommand tag) [] (told.storage tag small)
-  carried tag (request.SwitchStorage index) small named = operated kind.Nothing (switchCommand tag index) [] (told.switch tag index small)
+      operated kind.Write (writeLbaCommand tag first count) (replicate (count * 512) fill) (ends.write tag first count small (named .0) (named .1) (lent count fill))
+  carried tag (request.ResetDevice opcode) small named = operated kind.Nothing (resetCommand tag opcode) [] (ends.reset tag opcode small)
+  carried tag request.Storage small named = operated kind.Storage (storageCommand tag) [] (ends.storage tag small)
+  carried tag (request.SwitchStorage index) small named = operated kind.Nothing (switchCommand tag index) [] (ends.switch tag index small)
   carried tag (request.WriteArea area n fill) small named = loaded area true (replicate n fill)
   carried tag (request.WriteAreaNoCrc area n fill) small named = loaded area false (replicate n fill)
 

@@ -10,7 +10,6 @@ use Rattle.promise.specs.Told.{given, refused}
 use Rattle.promise.specs.Bytes.{front}
 use Rattle.protocol_bytes.specs.Sector.{sectorSize}
 use Rattle.protocol.specs.declared.CommandBlock.{CommandBlock}
-use Rattle.protocol.proofs.Trips.{BlockFits}
 use Rattle.operation_finish.specs.Reply.{Reply}
 use Rattle.operation_finish.specs.Finish.{replyOf}
 use Rattle.operation_finish.specs.declared.Kind.{Kind}
@@ -42,8 +41,10 @@ use Rattle.run_operation.specs.Run.{sectorData}
 use Rattle.theorems.proofs.NoTransactionLeft.{landed-long}
 use Rattle.theorems.proofs.CallsByTurn.{asCall, writes-as, reads-as}
 use Rattle.theorems.proofs.FromStatus.{answered}
-use Rattle.theorems.proofs.BetweenRuns.{Standing}
-use Rattle.theorems.proofs.FromStart.{operationRun, long-left, awaiting, awaits}
+use Rattle.theorems.specs.Standing.{Standing}
+use Rattle.theorems.proofs.FromStart.{long-left, awaiting, awaits}
+use Rattle.theorems.specs.Runs.{operationRun}
+use Rattle.protocol.specs.CommandBytes.{BlockFits}
 
 module _ (k : Kind) (c : CommandBlock) (device : MockState) (flash bytes : List ℕ) (store sectors : ℕ) (stands : Standing device flash store sectors)
     (fits : BlockFits c) (enough : sectorData k (c .«transfer_length») ≤ length bytes) (some : c .«transfer_length» ≡ 0 → ⊥) where

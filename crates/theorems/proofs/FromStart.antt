@@ -8,7 +8,7 @@ use borrow.Author.Tests.{eq-eqb, ne-eqb}
 use Rattle.promise.specs.Told.{Told, given, refused}
 use Rattle.promise.specs.Rules.{orRefuse}
 use Rattle.protocol.specs.declared.CommandBlock.{CommandBlock}
-use Rattle.protocol.proofs.Trips.{BlockFits, reads-back}
+use Rattle.protocol.proofs.Trips.{reads-back}
 use Rattle.operation_finish.specs.Reply.{Reply}
 use Rattle.operation_finish.specs.Finish.{replyOf}
 use Rattle.operation_finish.specs.declared.Kind.{Kind}
@@ -28,15 +28,13 @@ use Rattle.mock.specs.Device.{Call, sessionOf, withSession, writeBulk}
 use Rattle.mock_effects.proofs.Frames.{write-long}
 use Rattle.promise.specs.Run.{tells, Ran, follow, runs}
 use Rattle.run_turn.specs.Turn.{UsbState, usbState, onward, wrote, transfers, usbTurn}
-use Rattle.run_operation.specs.Run.{sectorData, usbRun, wholeBudget}
+use Rattle.run_operation.specs.Run.{sectorData, wholeBudget}
 use Rattle.run_operation.proofs.Checks.{unrefused}
-use Rattle.theorems.proofs.BetweenRuns.{Standing}
+use Rattle.theorems.specs.Standing.{Standing}
 use Rattle.theorems.proofs.CallsByTurn.{asCall, writes-as}
 use Rattle.theorems.proofs.FromStatus.{answered}
-
--- one whole operation from its start
-abbrev pub operationRun : Kind → CommandBlock → MockState → List ℕ → List ℕ → ℕ → Ran Reply UsbState
-operationRun k c device flash bytes store = usbRun (usbState (fresh k c) device flash bytes) store wholeBudget
+use Rattle.theorems.specs.Runs.{operationRun}
+use Rattle.protocol.specs.CommandBytes.{BlockFits}
 
 -- the state once its command is out and the device awaits its data
 abbrev pub awaiting : Kind → CommandBlock → MockState → List ℕ → List ℕ → UsbState

@@ -36,11 +36,7 @@ use Rattle.run_turn.specs.Turn.{UsbState, usbState, onward, wrote, bufferFor, l
 use Rattle.run_operation.specs.Run.{sectorData, runRules, unstarted, usbRun, wholeBudget}
 use Rattle.theorems.proofs.OperationSteps.{whole-ends}
 use Rattle.theorems.proofs.CallsThatEnd.{write-ends, read-ends, status-ends}
-
--- no transaction, and all but the last reset as at `device`; a flash of so many bytes
-pub record Idle (device : MockState) (flash : ℕ) (s : UsbState) : Type 0 where
-  pub same : s .device ≡ withSession device (session None (s .device .«last_reset»))
-  pub long : length (s .flash) ≡ flash
+use Rattle.theorems.specs.Standing.{Idle}
 
 -- a run that is under way
 record Going (device : MockState) (flash : ℕ) (s : UsbState) : Type 0 where

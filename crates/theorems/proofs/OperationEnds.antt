@@ -23,7 +23,6 @@ use Rattle.protocol_codes.proofs.Back.{reset-back}
 use Rattle.protocol_bytes.specs.Sector.{sectorSize}
 use Rattle.protocol.specs.declared.CommandBlock.{CommandBlock}
 use Rattle.protocol.specs.Commands.{replyCommand, opcodeCommand, sectorCommand, chipInfoCommand, flashIdCommand, flashInfoCommand, capabilityCommand, storageCommand, eraseLbaCommand, eraseForceCommand, readLbaCommand, writeLbaCommand, resetCommand, switchCommand}
-use Rattle.protocol.proofs.Trips.{BlockFits}
 use Rattle.operation_finish.specs.Reply.{Reply, chipInfo, flashId, flashInfo, capability, nothing, moved}
 use Rattle.operation_finish.specs.Finish.{sectorReply, replyOf}
 use Rattle.operation_finish.proofs.Cases.{sectors-moved}
@@ -43,20 +42,14 @@ use Rattle.mock_table.specs.declared.outcome.ReplyKind.the-variants as reply
 use Rattle.mock_base.specs.Config.{defaultConfig}
 use Rattle.mock_base.specs.Config as config
 use Rattle.mock_effects.specs.Effects.{replyBytes}
-use Rattle.mock_base.specs.declared.config.MockDeviceConfig.{MockDeviceConfig}
 use Rattle.mock.specs.declared.device.MockState.{MockState}
 use Rattle.promise.specs.Run.{tells}
 use Rattle.run_operation.specs.Run.{sectorData}
-use Rattle.theorems.proofs.BetweenRuns.{Standing}
-use Rattle.theorems.proofs.FromStart.{operationRun, refused-at-once, done-at-once}
+use Rattle.theorems.specs.Standing.{Standing, Sized}
+use Rattle.theorems.proofs.FromStart.{refused-at-once, done-at-once}
+use Rattle.theorems.specs.Runs.{operationRun}
 use Rattle.theorems.proofs.FromData.{inband-refused, inband-answered, read-refused, read-answered, write-refused, write-answered}
-
--- a configuration whose replies are as long as the protocol has them, as the Rust's default is
-pub record Sized (config : MockDeviceConfig) : Type 0 where
-  pub chip : length (config .«chip_info») ≡ 16
-  pub id : length (config .«flash_id») ≡ 5
-  pub capability : length (config .capability) ≡ 8
-  pub extra : length (config .«flash_info_extra») ≡ 5
+use Rattle.protocol.specs.CommandBytes.{BlockFits}
 
 pub default-sized : Sized defaultConfig
 unfolding defaultConfig

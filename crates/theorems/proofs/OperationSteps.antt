@@ -21,9 +21,9 @@ use Rattle.operation.specs.declared.steps.IOBytes.the-variants as io
 use Rattle.operation.specs.declared.steps.Asked.{Asked}
 use Rattle.operation.specs.declared.steps.Asked.the-variants as asked
 use Rattle.operation.specs.declared.steps.UsbOperation.{UsbOperation}
-use Rattle.operation.specs.Record.{fresh, ioOf, transferLength, afterCommand, turned}
+use Rattle.operation.specs.Record.{fresh, ioOf, transferLength, afterCommand, turned, leftAt, left}
 use Rattle.operation.specs.Step.{Asks, writesCommand, writesData, reads, finished, Step, does, stays, sectorStep, commandStep, ioStep, statusStep, finishedTold, finishStep, stepOf, usbStep}
-use Rattle.operation.proofs.Rounds.{leftAt, left, left-kept, fresh-without, fresh-with}
+use Rattle.operation.proofs.Rounds.{left-kept, fresh-without, fresh-with}
 use Rattle.mock.specs.Device.{writeBulk, readBulk}
 use Rattle.promise.specs.Run.{Turned, ends, goes, tells, outOfSteps, Ran, follow, runs}
 use Rattle.run_turn.specs.Turn.{UsbState, usbState, onward, bufferFor, landed, gives, received, transfers, usbTurn}

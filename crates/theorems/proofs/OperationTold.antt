@@ -7,40 +7,19 @@ use native.Mathlib.Omega.{arith}
 use lib.ListN.{length}
 use Rattle.promise.specs.Told.{Told, given, refused}
 use Rattle.promise.specs.Rules.{pick}
-use Rattle.protocol_codes.specs.declared.ResetOpcode.{ResetOpcode}
-use Rattle.protocol_codes.specs.declared.StorageIndex.{StorageIndex}
 use Rattle.protocol_bytes.specs.Sector.{sectorSize}
 use Rattle.protocol.specs.declared.CommandBlock.{CommandBlock}
-use Rattle.protocol.specs.Commands.{chipInfoCommand, flashIdCommand, flashInfoCommand, capabilityCommand, storageCommand, eraseLbaCommand, eraseForceCommand, readLbaCommand, writeLbaCommand, resetCommand, switchCommand}
+use Rattle.protocol.specs.Commands.{readLbaCommand, writeLbaCommand}
 use Rattle.operation_finish.specs.Reply.{Reply}
 use Rattle.operation_finish.specs.declared.Kind.{Kind}
 use Rattle.operation_finish.specs.declared.Kind.the-variants as kind
 use Rattle.mock_base.specs.Flash.{fitsIn}
 use Rattle.mock.specs.declared.device.MockState.{MockState}
 use Rattle.promise.specs.Run.{End, tells, endTold}
-use Rattle.theorems.proofs.BetweenRuns.{Standing}
-use Rattle.theorems.proofs.FromStart.{operationRun}
-use Rattle.theorems.proofs.OperationEnds.{Sized, chip-info-ends, flash-id-ends, flash-info-ends, capability-ends, storage-ends, erase-lba-ends, erase-force-ends, read-ends, read-none-ends, write-ends, write-none-ends, reset-ends, switch-ends}
-
--- the eleven starts, with numbers that their commands can hold and so many bytes of data lent
-pub data Started (lent : ℕ) : Kind → CommandBlock → Type 0 where
-  chip-info : (tag : ℕ) → tag < 256 ^ 4 → Started lent kind.ChipInfo (chipInfoCommand tag)
-  flash-id : (tag : ℕ) → tag < 256 ^ 4 → Started lent kind.FlashId (flashIdCommand tag)
-  flash-info : (tag : ℕ) → tag < 256 ^ 4 → Started lent kind.FlashInfo (flashInfoCommand tag)
-  capability : (tag : ℕ) → tag < 256 ^ 4 → Started lent kind.Capability (capabilityCommand tag)
-  storage : (tag : ℕ) → tag < 256 ^ 4 → Started lent kind.Storage (storageCommand tag)
-  reset : (tag : ℕ) (opcode : ResetOpcode) → tag < 256 ^ 4 → Started lent kind.Nothing (resetCommand tag opcode)
-  switch : (tag : ℕ) (index : StorageIndex) → tag < 256 ^ 4 → Started lent kind.Nothing (switchCommand tag index)
-  erase-lba : (tag first count : ℕ) → tag < 256 ^ 4 → first < 256 ^ 4 → count < 256 ^ 2 → Started lent kind.Nothing (eraseLbaCommand tag first count)
-  erase-force : (tag first count : ℕ) → tag < 256 ^ 4 → first < 256 ^ 4 → count < 256 ^ 2 → Started lent kind.Nothing (eraseForceCommand tag first count)
-  read : (tag first count : ℕ) → tag < 256 ^ 4 → first < 256 ^ 4 → count < 256 ^ 2 → count * sectorSize ≤ lent → Started lent kind.Read (readLbaCommand tag first count)
-  write : (tag first count : ℕ) → tag < 256 ^ 4 → first < 256 ^ 4 → count < 256 ^ 2 → count * sectorSize ≤ lent → Started lent kind.Write (writeLbaCommand tag first count)
-
-pub data OperationTold : Told Reply → Type 0 where
-  replies : (reply : Reply) → OperationTold (given reply)
-  unknown : (values : List ℕ) → OperationTold (refused 53 values)
-  unexpected : OperationTold (refused 54 [])
-  out-of-range : OperationTold (refused 57 [])
+use Rattle.theorems.specs.Standing.{Standing, Sized}
+use Rattle.theorems.specs.Runs.{operationRun}
+use Rattle.theorems.proofs.OperationEnds.{chip-info-ends, flash-id-ends, flash-info-ends, capability-ends, storage-ends, erase-lba-ends, erase-force-ends, read-ends, read-none-ends, write-ends, write-none-ends, reset-ends, switch-ends}
+use Rattle.theorems.specs.Told.{Started, OperationTold, chip-info, flash-id, flash-info, capability, storage, reset, switch, erase-lba, erase-force, read, write, replies, unknown, unexpected, out-of-range}
 
 by-end : (end : End Reply) (told : Told Reply) → end ≡ tells told → OperationTold told → OperationTold (endTold end)
 unfolding endTold

@@ -16,7 +16,7 @@ use Rattle.protocol_codes.specs.declared.CommandCode.the-variants.{ReadLBA}
 use Rattle.protocol_bytes.specs.Sector.{sectorSize}
 use Rattle.protocol.specs.CommandBytes.{readCommand}
 use Rattle.protocol.specs.declared.CommandBlock.{CommandBlock}
-use Rattle.protocol.proofs.Trips.{BlockFits, reads-back}
+use Rattle.protocol.proofs.Trips.{reads-back}
 use Rattle.operation_finish.specs.Reply.{Reply}
 use Rattle.operation_finish.specs.Finish.{finishes}
 use Rattle.operation_finish.specs.declared.Kind.{Kind}
@@ -25,11 +25,11 @@ use Rattle.operation.specs.declared.steps.Operation.{Operation}
 use Rattle.operation.specs.declared.steps.Operation.the-variants as operation
 use Rattle.operation.specs.declared.steps.Asked.the-variants as asked
 use Rattle.operation.specs.declared.steps.UsbOperation.{UsbOperation}
-use Rattle.operation.specs.Record.{ioOf, transferLength, afterCommand, turned, commandOut, commanded}
+use Rattle.operation.specs.Record.{ioOf, transferLength, afterCommand, turned, commandOut, commanded, leftAt, left}
 use Rattle.operation.specs.Step.{writesCommand, writesData, reads, Step, does, ioStep, statusStep, finishedTold, finishStep, stepOf, usbStep}
 use Rattle.operation.proofs.Laws.{at-command, at-io, data-read, data-write}
 use Rattle.operation.proofs.Cases.{command-out}
-use Rattle.operation.proofs.Rounds.{leftAt, left, left-kept}
+use Rattle.operation.proofs.Rounds.{left-kept}
 use Rattle.mock_base.specs.Flash.{flashRules, flashSectors}
 use Rattle.mock_table.specs.Turn.{Turn, done}
 use Rattle.mock_table.specs.declared.outcome.Effect.the-variants.{Nothing}
@@ -44,6 +44,7 @@ use Rattle.promise.specs.Run.{Turned, ends, goes, End, tells, outOfSteps, Ran, 
 use Rattle.run_turn.specs.Turn.{UsbState, usbState, onward, bufferFor, landed, gives, received, transfers, after, usbTurn}
 use Rattle.run_operation.specs.Run.{sectorData, runRules, unstarted, usbRun}
 use Rattle.theorems.proofs.OperationSteps.{Uses, turn-uses}
+use Rattle.theorems.specs.Standing.{AtCommand}
 
 -- a turn that leaves flash and data so
 abbrev Still : List ℕ → List ℕ → Turned Reply UsbState → Type 0
@@ -176,14 +177,7 @@ module _ (budget : ℕ) (s : UsbState) (reply : Reply) (c : CommandBlock) (enoug
       let r = gone-leaves budget s (gives asked.Sectors mid (g .leaves)) reply (g .told) left-two (received-gone budget s mid (g .leaves) reply (g .told) turn e) in
       (r .1 .0, r .1 .1 ∙ ap (λ (l : List ℕ). front l (s .«data»)) (supplied (sessionOf (s .device)) (s .device .config) (s .flash) buffer c waits code (r .0) .leaves))
 
--- a sector operation at its start, at a device with no transaction
-pub record Ready (s : UsbState) : Type 0 where
-  pub here : s .operation .next ≡ operation.CommandBlock
-  pub none : s .device .«current_command» ≡ state.None
-  pub fits : BlockFits (s .operation .command)
-  pub long : transferLength (s .operation) ≡ 0 → ⊥
-
-module _ (budget : ℕ) (s : UsbState) (reply : Reply) (enough : transferLength (s .operation) ≤ length (s .«data»)) (r : Ready s)
+module _ (budget : ℕ) (s : UsbState) (reply : Reply) (enough : transferLength (s .operation) ≤ length (s .«data»)) (r : AtCommand s)
     (e : runs usbTurn budget s .end ≡ tells (given reply)) where
   -- the state once the command is out
   abbrev sent : Call
@@ -235,7 +229,7 @@ unfolding runRules flashRules
 enough-lent s store same met = omega (arith, same, ltb-false (length (s .«data»)) (sectorData (s .operation .kind) (transferLength (s .operation))) (met .1 .1 .1 .0))
 
 -- AN UNREFUSED WRITE leaves the flash with the data at its sectors, and all else as it was
-pub write-lands : (s : UsbState) (store budget : ℕ) (reply : Reply) → Ready s → s .operation .kind ≡ kind.Write
+pub write-lands : (s : UsbState) (store budget : ℕ) (reply : Reply) → AtCommand s → s .operation .kind ≡ kind.Write
     → usbRun s store budget .end ≡ tells (given reply)
     → usbRun s store budget .state .flash ≡ over (s .operation .command .«cd_address» * sectorSize) (take (transferLength (s .operation)) (s .«data»)) (s .flash)
 unfolding usbRun sectorData
@@ -248,7 +242,7 @@ write-lands s store budget reply r k =
     run-written budget s reply enough r e k (command-gone budget s reply enough r e))
 
 -- AN UNREFUSED READ gives the flash's bytes at its sectors, and leaves the flash as it was
-pub read-lands : (s : UsbState) (store budget : ℕ) (reply : Reply) → Ready s → s .operation .kind ≡ kind.Read → s .operation .command .«cd_code» ≡ ReadLBA
+pub read-lands : (s : UsbState) (store budget : ℕ) (reply : Reply) → AtCommand s → s .operation .kind ≡ kind.Read → s .operation .command .«cd_code» ≡ ReadLBA
     → usbRun s store budget .end ≡ tells (given reply)
     → (usbRun s store budget .state .flash ≡ s .flash)
     × (usbRun s store budget .state .«data» ≡ front (front (field (s .operation .command .«cd_address» * sectorSize) (s .operation .command .«cd_length» * sectorSize) (s .flash)) (take (transferLength (s .operation)) (s .«data»))) (s .«data»))

@@ -9,9 +9,9 @@ use Rattle.promise.specs.Bytes.{lowFirst, highFirst}
 use Rattle.crc.specs.Check.{crcOver}
 use Rattle.maskrom_transfer.specs.Moves.{blockSize, checkBytes}
 use Rattle.maskrom.specs.Answers.{longest}
-use Rattle.theorems.specs.UploadBytes.{pad, lastZero, uploadBytes, pieces, cut}
+use Rattle.theorems.specs.UploadBytes.{pad, lastZero, uploadBytes, pieces, cut, total}
 use Rattle.theorems.specs.PartDriver.{transfer, ended, driveParts, transfersOf}
-use Rattle.theorems.proofs.AnyCut.{any-cut, total, how-many, sizes}
+use Rattle.theorems.proofs.AnyCut.{any-cut, how-many, sizes}
 
 -- P3, P4: the empty image
 pub p3 : (area : ℕ) → transfersOf area true [] ≡ transfer area (0xFF ∷ 0xFF ∷ []) ∷ []

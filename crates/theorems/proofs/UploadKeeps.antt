@@ -9,20 +9,15 @@ use Rattle.promise.proofs.Outcome.{either-way}
 use Rattle.maskrom.specs.Whole.{freshWhole}
 use Rattle.theorems.specs.UploadBytes.{uploadBytes, cut}
 use Rattle.mock_areas.specs.Append.{appendStep}
-use Rattle.mock_areas.specs.Contents.{Sound}
 use Rattle.mock.specs.declared.device.MockState.{MockState}
 use Rattle.mock.specs.Device.{Call, controlRules, withAreas, writeControl}
 use Rattle.mock.proofs.Controls.{control-areas}
 use Rattle.promise.specs.Run.{Ran, runs}
 use Rattle.run_upload.specs.Load.{LoadState, loadState, loadTurn, loadRules, unstarted, loadRun}
-use Rattle.theorems.proofs.UploadTransfers.{Loads, spent, finished, stopped, sent-on, written, uploadRun, fresh-loads}
+use Rattle.theorems.proofs.UploadTransfers.{Loads, spent, finished, stopped, sent-on, fresh-loads}
+use Rattle.theorems.specs.Runs.{written, uploadRun}
 use Rattle.theorems.proofs.UploadRefusals.{append-long}
-
--- a device and a store that differ from these by writes to areas
-pub record Keeps (device : MockState) (store : List ℕ) (next : MockState) (leaves : List ℕ) : Type 0 where
-  pub same : next ≡ withAreas device (next .areas)
-  pub long : length leaves ≡ length store
-  pub sound : Sound (device .areas) store → Sound (next .areas) leaves
+use Rattle.theorems.specs.Standing.{Keeps}
 
 keeps-all : (device : MockState) (store : List ℕ) → Keeps device store device store
 keeps-all device store = record { same = refl; long = refl; sound = λ s. s }

@@ -24,14 +24,11 @@ use Rattle.mock.specs.Device.{Call, isUpload, controlRules, withAreas, writeCon
 use Rattle.mock.proofs.Controls.{Controlled, control-areas, maskrom-bytes}
 use Rattle.promise.specs.Run.{tells, endTold, Ran, runs}
 use Rattle.run_upload.specs.Load.{LoadState, loadState, loadTurn, loadRules, unstarted, loadRun}
-use Rattle.theorems.proofs.UploadTransfers.{Loads, spent, finished, stopped, sent-on, written, uploadRun, fresh-loads}
+use Rattle.theorems.proofs.UploadTransfers.{Loads, spent, finished, stopped, sent-on, fresh-loads}
+use Rattle.theorems.specs.Runs.{written, uploadRun, accepts}
 use Rattle.theorems.proofs.UploadSteps.{given-refused, given-spent}
 use Rattle.theorems.proofs.UploadRefusals.{append-long}
 use Rattle.theorems.proofs.TwoWritesAreOne.{accepted, joined}
-
--- an accepted control write that leaves the device and the store so
-abbrev pub accepts : MockState → List ℕ → Call
-accepts next leaves = record { told = given tt; next = next; leaves = leaves }
 
 -- a write to an area, as the device's call
 abbrev asCall : MockState → Appending → Call

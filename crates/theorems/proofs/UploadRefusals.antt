@@ -3,12 +3,12 @@
 use Prim.Native.Nat.{ℕ, _+_, _*_, _/_, _<_, _≤_}
 use mathlib.Core.Path.{_≡_, refl, sym, _∙_}
 use mathlib.Core.Bool.{Bool}
-use mathlib.Core.List.{List, []}
+use mathlib.Core.List.{List}
 use native.Mathlib.Omega.{arith}
 use lib.Dec.{leb, ltb}
 use lib.ListN.{length}
 use borrow.Author.Tests.{leb-false, ltb-false, eq-eqb}
-use Rattle.promise.specs.Told.{Told, given, refused}
+use Rattle.promise.specs.Told.{given, refused}
 use Rattle.promise.specs.Rules.{orRefuse}
 use Rattle.promise.proofs.Over.{length-over}
 use Rattle.promise.proofs.Outcome.{by-test, either-way}
@@ -27,14 +27,10 @@ use Rattle.mock.specs.Device.{Call, isUpload, controlRules, withAreas, writeCon
 use Rattle.promise.specs.Run.{endTold, Ran, runs}
 use Rattle.run_upload.specs.Load.{LoadState, loadState, loadTurn, uploadBudget}
 use Rattle.run_upload.proofs.Checks.{unrefused}
-use Rattle.theorems.proofs.UploadTransfers.{Loads, spent, finished, stopped, sent-on, written, uploadRun, fresh-loads}
+use Rattle.theorems.proofs.UploadTransfers.{Loads, spent, finished, stopped, sent-on, fresh-loads}
+use Rattle.theorems.specs.Runs.{written, uploadRun}
 use Rattle.theorems.proofs.UploadSteps.{whole-many}
-
--- what an upload may be told
-pub data UploadTold : Told Unit → Type 0 where
-  accepted : UploadTold (given tt)
-  no-slot : UploadTold (refused 58 [])
-  slot-full : UploadTold (refused 59 [])
+use Rattle.theorems.specs.Told.{UploadTold, accepted, no-slot, slot-full}
 
 module _ (areas : Areas) (number : ℕ) (bytes store : List ℕ) where
   append-told : UploadTold (appendStep areas number bytes store .told)

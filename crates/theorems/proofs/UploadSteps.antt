@@ -16,7 +16,8 @@ use Rattle.theorems.proofs.BehindTheImage.{ending, upload-ending, endin
 use Rattle.mock.specs.declared.device.MockState.{MockState}
 use Rattle.promise.specs.Run.{End, tells, outOfSteps, Ran, runs}
 use Rattle.run_upload.specs.Load.{LoadState, loadState, loadTurn, loadRules, unstarted, loadRun, uploadBudget}
-use Rattle.theorems.proofs.UploadTransfers.{Loads, spent, finished, stopped, sent-on, uploadRun, fresh-loads}
+use Rattle.theorems.proofs.UploadTransfers.{Loads, spent, finished, stopped, sent-on, fresh-loads}
+use Rattle.theorems.specs.Runs.{uploadRun}
 
 -- an end is one of the two, and what is told is given or refused
 pub given-refused : {C : Type 0} (number : ℕ) (values : List ℕ) → _≡_ {A = End Unit} (tells (refused number values)) (tells (given tt)) → C

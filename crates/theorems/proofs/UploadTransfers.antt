@@ -16,17 +16,9 @@ use Rattle.theorems.specs.PartDriver.{Transfer, transfer, transfersOf}
 use Rattle.theorems.proofs.StepsToFinish.{Sends, finishes, sends}
 use Rattle.theorems.proofs.AnyCut.{whole-start}
 use Rattle.mock.specs.declared.device.MockState.{MockState}
-use Rattle.mock.specs.Device.{Call, writeControl}
 use Rattle.promise.specs.Run.{ends, tells, outOfSteps, Ran, ran, counted, follow, runs}
-use Rattle.run_upload.specs.Load.{LoadState, loadState, onward, carried, carries, loadTurn, loadRun}
-
--- the control write of a transfer: "type 0x40, request 0xc, value 0, index the area"
-abbrev pub written : MockState → ℕ → List ℕ → List ℕ → Call
-written device area bytes store = writeControl device 0x40 0xc 0 area bytes store
-
--- the run of an upload from its start
-abbrev pub uploadRun : ℕ → Bool → List ℕ → ℕ → MockState → List ℕ → ℕ → Ran Unit LoadState
-uploadRun area checked image flash device store budget = loadRun image flash budget (loadState (freshWhole area checked (length image)) device store)
+use Rattle.run_upload.specs.Load.{LoadState, loadState, onward, carried, carries, loadTurn}
+use Rattle.theorems.specs.Runs.{written}
 
 -- a run with so many steps that has these transfers to make, from this device and store
 pub data Loads (area : ℕ) : List (List ℕ) → ℕ → MockState → List ℕ → Ran Unit LoadState → Type 0 where

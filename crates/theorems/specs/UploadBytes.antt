@@ -31,3 +31,7 @@ pieces (suc k) bs = take blockSize bs ∷ pieces k (drop blockSize bs)
 -- "With T bytes in all there are floor(T/4,096)+1 transfers"
 unfoldable pub cut : List ℕ → List (List ℕ)
 cut bs = pieces (length bs / blockSize + 1) bs
+
+-- the length of an upload, T, by the image's
+unfoldable pub total : ℕ → ℕ
+total n = n + (length (pad n) + (2 + length (lastZero n)))

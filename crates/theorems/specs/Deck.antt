@@ -1,0 +1,39 @@
+-- A bench between blocks: the head, its counters, and the numbers that a block may be refused with.
+use Prim.Native.Nat.{ℕ, _+_, _%_, _^_}
+use mathlib.Core.List.{List, [], _∷_, _++_}
+use lib.ListN.{length}
+use Rattle.theorems.specs.Standing.{Standing, Sized}
+use Rattle.deck.specs.Deal.{Head, head}
+use Rattle.deck.specs.Dealing.{dealBlock}
+use mathlib.Core.Path.{_≡_}
+use Rattle.deck.specs.declared.bench.Bench.{Bench}
+use mathlib.Core.Bool.{true}
+use Rattle.promise.specs.Told.{Told, given, refused}
+use Rattle.operation_finish.specs.Reply.{Reply}
+use Rattle.deck_block.specs.Refusals.{isAmong, blockRefusals}
+
+pub record Ready (sectors : ℕ) (h : Head) : Type 0 where
+  pub stands : Standing (h .device) (h .flash) (length (h .store)) sectors
+  pub sized : Sized (h .device .config)
+
+-- the head after a deck, whose first block has the tag after `tag`
+unfoldable pub afterDeck : ℕ → List (List ℕ) → Head → Head
+afterDeck tag [] h = h
+afterDeck tag (block ∷ blocks) h =
+    afterDeck ((tag + 1) % 2 ^ 32) blocks (dealBlock ((tag + 1) % 2 ^ 32) block h .leaves)
+
+-- what the counters of a bench say after k blocks
+pub record Counts (k : ℕ) (bench : Bench) : Type 0 where
+  pub number : bench .number ≡ k % 2 ^ 64
+  pub tag : bench .tag ≡ k % 2 ^ 32
+
+-- of what a block asks for, and of the block itself
+abbrev pub doneRefusals : List ℕ
+doneRefusals = 53 ∷ 54 ∷ 57 ∷ 58 ∷ 59 ∷ []
+
+abbrev pub benchRefusals : List ℕ
+benchRefusals = blockRefusals ++ doneRefusals
+
+abbrev pub BenchTold : Told Reply → Type 0
+BenchTold (given reply) = Unit
+BenchTold (refused n values) = isAmong n benchRefusals ≡ true
