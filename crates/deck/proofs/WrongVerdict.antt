@@ -5,8 +5,6 @@ use mathlib.Core.List.{List, [], _∷_}
 use native.Mathlib.Omega.{arith}
 use lib.ListN.{getD}
 use Rattle.promise.specs.Told.{Told, refused, number}
-use Rattle.maskrom_transfer.specs.Sending.{tooShort}
-use Rattle.maskrom.specs.Answers.{differs}
 use Rattle.operation_finish.specs.Reply.{Reply, blank}
 use Rattle.operation_finish.specs.declared.UsbReply.{UsbReply}
 use Rattle.operation_finish.specs.declared.Beside.{Beside}
@@ -26,6 +24,7 @@ use Rattle.deck.specs.declared.verdict.Verdict.the-variants.{Done, Refus
 use Rattle.deck.specs.declared.verdict.Dealt.{Dealt}
 use Rattle.deck.specs.Verdict.{numbered, loadTold, verdictTold, kept}
 use Rattle.deck.specs.Deal.{OperatedMeets, LoadedMeets, turnedAway}
+use Rattle.promise.specs.Rules.{differs, tooShort}
 
 abbrev dealt : Verdict → Beside → MockState → Dealt
 dealt verdict beside device = record { verdict = verdict; beside = beside; device = device }

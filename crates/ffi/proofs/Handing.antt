@@ -10,12 +10,11 @@ use lib.ListN.{length, take, drop, length-take, length-drop}
 use types.Run.{OneOf, miss}
 use denote.Enum.Declared.{tagOf}
 use Rattle.promise.specs.Told.{Told, given, refused, number}
-use Rattle.promise.specs.Rules.{orRefuse, Rule, rule, unless, pick}
+use Rattle.promise.specs.Rules.{orRefuse, Rule, rule, unless, pick, tooShort}
 use Rattle.promise.specs.Does.{Does, does, Meets, said}
 use Rattle.maskrom_transfer.proofs.Lists.{take-min}
 use Rattle.maskrom.specs.declared.MaskRomOperation.{MaskRomOperation}
 use Rattle.maskrom_transfer.specs.Moves.{blockSize}
-use Rattle.maskrom_transfer.specs.Sending.{tooShort}
 use Rattle.maskrom.specs.declared.PartStep.{PartStep}
 use Rattle.maskrom.specs.declared.PartStep.the-variants.{Taken, WriteControl, OutputTooShort, AlreadyClosed, ImageTooLong}
 use Rattle.maskrom.proofs.PartStep.{the-type}

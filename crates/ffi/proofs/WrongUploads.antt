@@ -6,11 +6,10 @@ use mathlib.Core.List.{List, [], _∷_}
 use native.Mathlib.Omega.{arith}
 use lib.ListN.{getD, replicate}
 use Rattle.promise.specs.Told.{number, andThen}
-use Rattle.promise.specs.Rules.{orRefuse}
+use Rattle.promise.specs.Rules.{orRefuse, differs}
 use Rattle.promise.specs.Does.{said, sent, after}
 use Rattle.maskrom_transfer.specs.Moves.{blockSize, checkBytes, register, writing, movesAt}
 use Rattle.maskrom_transfer.specs.Sending.{sendStep}
-use Rattle.maskrom.specs.Answers.{differs}
 use Rattle.maskrom.specs.PartWise.{closed, takes, partStep, asks, closeStep}
 use Rattle.maskrom.specs.Whole.{startStep, most, sendsOn, wholeStep}
 use Rattle.promise.specs.Run.{endTold, follow, runs}

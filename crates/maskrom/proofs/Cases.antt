@@ -9,14 +9,13 @@ use types.Run.{OneOf, miss}
 use denote.Enum.Declared.{tagOf}
 use borrow.Author.Tests.{eq-eqb, ne-eqb, lt-ltb, le-ltb}
 use Rattle.promise.specs.Told.{given, refused, andThen}
-use Rattle.promise.specs.Rules.{orRefuse}
+use Rattle.promise.specs.Rules.{orRefuse, differs, tooShort}
 use Rattle.maskrom_transfer.proofs.MaskRomSteps.{the-type}
 use Rattle.maskrom_transfer.specs.declared.MaskRomSteps.{MaskRomSteps}
 use Rattle.maskrom_transfer.specs.declared.MaskRomSteps.the-variants.{Writing, Check, Dummy, Done}
-use Rattle.maskrom.specs.Answers.{longest, tooLong, closedAlready, differs, control, took, filled, writes}
+use Rattle.maskrom.specs.Answers.{longest, tooLong, closedAlready, control, took, filled, writes}
 use Rattle.maskrom_transfer.specs.Moves.{register, movesAt}
 use Rattle.promise.specs.Does.{does}
-use Rattle.maskrom_transfer.specs.Sending.{tooShort}
 use Rattle.maskrom_transfer.proofs.Cases.{send-20, send-acts}
 use Rattle.maskrom.specs.declared.MaskRomOperation.{MaskRomOperation}
 use Rattle.maskrom.specs.declared.WholeUpload.{WholeUpload}

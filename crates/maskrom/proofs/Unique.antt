@@ -6,10 +6,9 @@ use mathlib.Core.List.{List}
 use lib.ListN.{length}
 use lib.Dec.{eqb}
 use Rattle.promise.specs.Told.{Told, given, refused}
-use Rattle.promise.specs.Rules.{pick}
+use Rattle.promise.specs.Rules.{pick, tooShort}
 use Rattle.promise.specs.Bytes.{front}
 use Rattle.promise.specs.Does.{Does, sent, after, Meets}
-use Rattle.maskrom_transfer.specs.Sending.{tooShort}
 use Rattle.maskrom_transfer.proofs.Unique.{same}
 use Rattle.maskrom.proofs.Cases.{close-20}
 use Rattle.maskrom.specs.declared.MaskRomOperation.{MaskRomOperation}

@@ -9,7 +9,7 @@ use lib.ListN.{length, take, drop, length-append, length-take}
 use lib.Seq.{take-append-seam}
 use lib.Dec.{eqb, ltb}
 use Rattle.promise.specs.Told.{Told, given, refused, andThen}
-use Rattle.promise.specs.Rules.{orRefuse, Rule, rule, unless, pick}
+use Rattle.promise.specs.Rules.{orRefuse, Rule, rule, unless, pick, differs, tooShort}
 use Rattle.promise.specs.Bytes.{front}
 use Rattle.maskrom_transfer.specs.declared.Moved.{Moved}
 use Rattle.maskrom_transfer.specs.declared.MaskRomSteps.{MaskRomSteps}
@@ -18,9 +18,9 @@ use Rattle.maskrom.specs.declared.MaskRomOperation.{MaskRomOperation}
 use Rattle.maskrom.specs.declared.WholeUpload.{WholeUpload}
 use Rattle.maskrom_transfer.specs.Moves.{blockSize, register, writing, movesAt}
 use Rattle.promise.specs.Does.{Does, does, sent}
-use Rattle.maskrom_transfer.specs.Sending.{tooShort, moved, sendStep}
+use Rattle.maskrom_transfer.specs.Sending.{moved, sendStep}
 use Rattle.maskrom_transfer.proofs.Cases.{length-check, writing-block, writing-pad, writing-dummy, writing-last}
-use Rattle.maskrom.specs.Answers.{longest, tooLong, closedAlready, differs, control, took, filled}
+use Rattle.maskrom.specs.Answers.{longest, tooLong, closedAlready, control, took, filled}
 use Rattle.maskrom.specs.PartWise.{waiting, held, closed, holding, takes, partStep, asks, withMoved, closeStep}
 use Rattle.maskrom.specs.Whole.{chunk, sentOn, sendsOn, wholeStep}
 use Rattle.maskrom.proofs.Cases.{most-block}

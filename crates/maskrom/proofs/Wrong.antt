@@ -8,7 +8,7 @@ use lib.ListN.{length, replicate}
 use lib.Dec.{lit≤}
 use borrow.Author.Tests.{lt-ltb, le-ltb}
 use Rattle.promise.specs.Told.{Told, given, refused, number, andThen}
-use Rattle.promise.specs.Rules.{orRefuse, pick}
+use Rattle.promise.specs.Rules.{orRefuse, pick, differs}
 use Rattle.promise.specs.Bytes.{front}
 use Rattle.maskrom_transfer.specs.Moves.{writing, movesAt}
 use Rattle.promise.specs.Does.{Does, Meets, said, sent, after}
@@ -23,7 +23,7 @@ use Rattle.maskrom.specs.declared.CloseStepped.{CloseStepped}
 use Rattle.maskrom.specs.declared.WholeStepped.{WholeStepped}
 use Rattle.maskrom.specs.declared.UploadStart.the-variants as start
 use Rattle.maskrom.specs.declared.WholeStart.{WholeStart}
-use Rattle.maskrom.specs.Answers.{longest, tooLong, differs, control, Handed, Asks, writes, finish, partTold, stepTold, startTold}
+use Rattle.maskrom.specs.Answers.{longest, tooLong, control, Handed, Asks, writes, finish, partTold, stepTold, startTold}
 use Rattle.maskrom.specs.PartWise.{fresh, withBlock, closed, takes, partStep, asks, closeStep}
 use Rattle.maskrom.specs.Whole.{freshWhole, startStep, StartMeets, most, sendsOn, wholeStep}
 use Rattle.maskrom.proofs.Cases.{part-takes}

@@ -2,7 +2,6 @@
 use Prim.Native.Nat.{ℕ}
 use mathlib.Core.List.{[]}
 use Rattle.promise.specs.Told.{Told, given, refused}
-use Rattle.maskrom_transfer.specs.Sending.{tooShort}
 use Rattle.maskrom.specs.declared.Control.{Control}
 use Rattle.maskrom.specs.declared.PartStep.{PartStep}
 use Rattle.maskrom.specs.declared.PartStep.the-variants as part
@@ -10,6 +9,7 @@ use Rattle.maskrom.specs.declared.UploadStep.{UploadStep}
 use Rattle.maskrom.specs.declared.UploadStep.the-variants as upload
 use Rattle.maskrom.specs.declared.UploadStart.{UploadStart}
 use Rattle.maskrom.specs.declared.UploadStart.the-variants as start
+use Rattle.promise.specs.Rules.{differs, tooShort}
 
 -- the longest image
 abbrev pub longest : ℕ
@@ -21,9 +21,6 @@ tooLong = 25
 
 abbrev pub closedAlready : ℕ
 closedAlready = 26
-
-abbrev pub differs : ℕ
-differs = 27
 
 -- "type 0x40, request 0xc, value 0, index the area"
 abbrev pub control : ℕ → ℕ → Control

@@ -5,7 +5,7 @@ use mathlib.Core.List.{List, [], _∷_, _++_}
 use lib.ListN.{length, take, drop, replicate}
 use lib.Dec.{eqb, ltb}
 use Rattle.promise.specs.Told.{Told, given, andThen}
-use Rattle.promise.specs.Rules.{pick, rule, unless}
+use Rattle.promise.specs.Rules.{pick, rule, unless, roomRule}
 use Rattle.crc.specs.Check.{start}
 use Rattle.maskrom_transfer.specs.declared.MaskRomSteps.{MaskRomSteps}
 use Rattle.maskrom_transfer.specs.declared.MaskRomSteps.the-variants.{Writing, Check, Dummy, Done}
@@ -14,7 +14,7 @@ use Rattle.maskrom_transfer.specs.declared.Moved.{Moved}
 use Rattle.maskrom_transfer.specs.Moves.{blockSize, register}
 use Rattle.maskrom.specs.Answers.{longest, tooLong, closedAlready, control, Handed, took, filled, Asks, writes, finish}
 use Rattle.promise.specs.Does.{Does, does}
-use Rattle.maskrom_transfer.specs.Sending.{tooShort, sendStep}
+use Rattle.maskrom_transfer.specs.Sending.{sendStep}
 
 abbrev pub fresh : ℕ → Bool → MaskRomOperation
 fresh area checked = record {
@@ -67,7 +67,7 @@ takes m ys =
 unfoldable pub partStep : MaskRomOperation → List ℕ → ℕ → Told (Does Handed MaskRomOperation)
 partStep m part room =
     unless
-    (rule (ltb room blockSize) tooShort []
+    (roomRule room blockSize
     ∷ rule (closed (m .steps)) closedAlready []
     ∷ rule (ltb longest (m .taken + length part)) tooLong []
     ∷ [])

@@ -6,7 +6,7 @@ use mathlib.Core.List.{List, [], _∷_}
 use lib.ListN.{length, take, drop}
 use lib.Dec.{eqb, ltb}
 use Rattle.promise.specs.Told.{Told, given, andThen}
-use Rattle.promise.specs.Rules.{rule, unless}
+use Rattle.promise.specs.Rules.{rule, unless, lentRule, roomRule}
 use Rattle.crc.specs.Check.{start}
 use Rattle.maskrom_transfer.specs.declared.MaskRomSteps.{MaskRomSteps}
 use Rattle.maskrom_transfer.specs.declared.MaskRomSteps.the-variants.{Writing, Check, Dummy, Done}
@@ -14,9 +14,9 @@ use Rattle.maskrom.specs.declared.WholeUpload.{WholeUpload}
 use Rattle.maskrom.specs.declared.WholeStart.{WholeStart}
 use Rattle.maskrom_transfer.specs.declared.Moved.{Moved}
 use Rattle.maskrom_transfer.specs.Moves.{blockSize, register}
-use Rattle.maskrom.specs.Answers.{longest, tooLong, differs, startTold, Asks}
+use Rattle.maskrom.specs.Answers.{longest, tooLong, startTold, Asks}
 use Rattle.promise.specs.Does.{Does, does, said, after}
-use Rattle.maskrom_transfer.specs.Sending.{tooShort, sendStep}
+use Rattle.maskrom_transfer.specs.Sending.{sendStep}
 use Rattle.maskrom.specs.PartWise.{asks}
 
 abbrev pub freshWhole : ℕ → Bool → ℕ → WholeUpload
@@ -71,5 +71,5 @@ sendsOn u w room =
 unfoldable pub wholeStep : WholeUpload → List ℕ → ℕ → Told (Does Asks WholeUpload)
 wholeStep u image room =
     unless
-    (rule (ltb room blockSize) tooShort [] ∷ rule (not (eqb (length image) (u .length))) differs [] ∷ [])
+    (roomRule room blockSize ∷ lentRule (not (eqb (length image) (u .length))) ∷ [])
     (sendsOn u (chunk u image) room)

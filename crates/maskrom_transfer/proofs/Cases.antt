@@ -7,7 +7,7 @@ use native.Mathlib.Omega.{arith}
 use lib.ListN.{length}
 use borrow.Author.Tests.{eq-eqb, ne-eqb, lt-ltb, le-ltb}
 use Rattle.promise.specs.Told.{Told, given, refused, andThen}
-use Rattle.promise.specs.Rules.{orRefuse}
+use Rattle.promise.specs.Rules.{orRefuse, tooShort}
 use Rattle.promise.specs.Bytes.{front}
 use Rattle.promise.proofs.Order.{length-high-first}
 use Rattle.maskrom_transfer.specs.declared.Moved.{Moved}
@@ -16,7 +16,7 @@ use Rattle.maskrom_transfer.specs.declared.MaskRomSteps.the-variants.{Wr
 use Rattle.maskrom_transfer.specs.Moves.{checkBytes, Moves, register, moves, writing, movesAt}
 use Rattle.maskrom_transfer.specs.Code.{SendMeets}
 use Rattle.promise.specs.Does.{Does, does, said, sent, after, Meets}
-use Rattle.maskrom_transfer.specs.Sending.{tooShort, moved, sendStep}
+use Rattle.maskrom_transfer.specs.Sending.{moved, sendStep}
 
 -- the check is two bytes, or two zeros
 pub length-check : (checked : Bool) (crc : ℕ) → length (checkBytes checked crc) ≡ 2

@@ -5,17 +5,13 @@ use mathlib.Core.List.{List, [], _∷_}
 use lib.ListN.{length}
 use lib.Dec.{ltb}
 use Rattle.promise.specs.Told.{Told, given, refused}
-use Rattle.promise.specs.Rules.{rule, unless}
+use Rattle.promise.specs.Rules.{rule, unless, roomRule, tooShort}
 use Rattle.maskrom_transfer.specs.declared.MaskRomSteps.{MaskRomSteps}
 use Rattle.maskrom_transfer.specs.declared.Moved.{Moved}
 use Rattle.maskrom_transfer.specs.declared.Sent.{Sent}
 use Rattle.maskrom_transfer.specs.declared.Sent.the-variants as sent
 use Rattle.maskrom_transfer.specs.Moves.{blockSize, Moves, movesAt}
 use Rattle.promise.specs.Does.{Does, does}
-
--- "output too short", "4,096 upload"
-abbrev pub tooShort : ℕ
-tooShort = 20
 
 unfoldable pub sentTold : Sent → Told Moved
 sentTold (sent.Moved m) = given m
@@ -28,4 +24,4 @@ moved to = record { size = length (to .bytes); crc = to .crc; steps = to .steps 
 unfoldable pub sendStep : MaskRomSteps → Bool → ℕ → List ℕ → ℕ → Told (Does Moved Unit)
 sendStep steps checked crc w room =
     let to = movesAt steps checked crc w in
-    unless (rule (ltb room blockSize) tooShort [] ∷ []) (given (does (moved to) (to .bytes) tt))
+    unless (roomRule room blockSize ∷ []) (given (does (moved to) (to .bytes) tt))

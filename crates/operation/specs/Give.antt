@@ -6,7 +6,7 @@ use mathlib.Core.List.{List, [], _∷_}
 use lib.Dec.{ltb}
 use lib.ListN.{length}
 use Rattle.promise.specs.Told.{Told, given, refused}
-use Rattle.promise.specs.Rules.{rule, orRefuse}
+use Rattle.promise.specs.Rules.{rule, orRefuse, differs}
 use Rattle.promise.specs.Bytes.{front}
 use Rattle.operation.specs.declared.steps.Asked.{Asked}
 use Rattle.operation.specs.declared.steps.Asked.the-variants as asked
@@ -15,7 +15,7 @@ use Rattle.operation.specs.declared.steps.Giving.{Giving}
 use Rattle.operation.specs.declared.steps.Giving.the-variants as giving
 use Rattle.operation.specs.declared.steps.UsbGiven.{UsbGiven}
 use Rattle.operation.specs.Record.{statusSize, transferLength, inbandLength, turned, withStatus, withInband}
-use Rattle.operation.specs.Step.{differs, dataRule}
+use Rattle.operation.specs.Step.{dataRule}
 
 -- what a giving tells, the bytes that it puts at the front of the caller's data, and the record that it hands back
 pub record Give : Type 0 where

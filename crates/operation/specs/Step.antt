@@ -4,10 +4,9 @@ use mathlib.Core.Path.{_≡_}
 use mathlib.Core.List.{List, [], _∷_}
 use lib.Dec.{ltb}
 use Rattle.promise.specs.Told.{Told, given, refused, andThen}
-use Rattle.promise.specs.Rules.{Rule, rule, orRefuse}
+use Rattle.promise.specs.Rules.{Rule, rule, orRefuse, differs, lentRule, roomRule, tooShort}
 use Rattle.promise.specs.Bytes.{front}
 use Rattle.protocol_bytes.specs.Signature.{noSignature}
-use Rattle.protocol_bytes.specs.Writing.{tooShort, roomRule}
 use Rattle.protocol.specs.CommandBytes.{commandLength}
 use Rattle.operation_finish.specs.Reply.{Reply, blank, finishTold, besideOf}
 use Rattle.operation_finish.specs.Finish.{finishes}
@@ -45,13 +44,9 @@ does told sent next = record { told = told; sent = sent; next = next }
 abbrev pub stays : UsbOperation → ℕ → List ℕ → Step
 stays op n values = does (refused n values) [] op
 
--- 27: lent data differs
-abbrev pub differs : ℕ
-differs = 27
-
 -- the caller's data is shorter than what is wanted of it
 abbrev pub dataRule : ℕ → ℕ → Rule
-dataRule lent wanted = rule (ltb lent wanted) differs []
+dataRule lent wanted = lentRule (ltb lent wanted)
 
 -- "Command out, the first 31 output bytes, 24-30 zero"; 20
 unfoldable pub commandStep : UsbOperation → ℕ → Step

@@ -2,6 +2,7 @@
 use Prim.Native.Nat.{ℕ}
 use mathlib.Core.Bool.{Bool, true, false}
 use mathlib.Core.List.{List, [], _∷_}
+use lib.Dec.{ltb}
 use Rattle.promise.specs.Told.{Told, refused}
 
 -- a or b, by a test
@@ -27,3 +28,17 @@ orRefuse refuse (r ∷ rules) done = pick (r .broken) (refuse (r .number) (r .va
 -- the same, where what comes of it is what is told
 abbrev pub unless : {A : Type 0} → List Rule → Told A → Told A
 unless rules answer = orRefuse refused rules answer
+
+-- 20: "output too short"
+abbrev pub tooShort : ℕ
+tooShort = 20
+
+abbrev pub roomRule : ℕ → ℕ → Rule
+roomRule room wanted = rule (ltb room wanted) tooShort []
+
+-- 27: "lent data differs"
+abbrev pub differs : ℕ
+differs = 27
+
+abbrev pub lentRule : Bool → Rule
+lentRule other = rule other differs []

@@ -4,7 +4,7 @@ use mathlib.Core.Path.{_≡_}
 use mathlib.Core.List.{List, [], _∷_}
 use lib.Dec.{ltb}
 use Rattle.promise.specs.Told.{Told, given, refused}
-use Rattle.promise.specs.Rules.{Rule, pick, rule, unless}
+use Rattle.promise.specs.Rules.{Rule, pick, rule, unless, roomRule, tooShort}
 use Rattle.promise.specs.Bytes.{front}
 use Rattle.protocol_bytes.specs.declared.output.Written.{Written}
 use Rattle.protocol_bytes.specs.declared.output.Written.the-variants.{Bytes, TooShort}
@@ -13,14 +13,6 @@ use Rattle.protocol_bytes.specs.declared.output.Written.the-variants.{By
 pub record Writing : Type 0 where
   pub told : Told ℕ
   pub sent : List ℕ
-
--- 20: output too short
-abbrev pub tooShort : ℕ
-tooShort = 20
-
--- the output has `room` bytes where `wanted` are needed
-abbrev pub roomRule : ℕ → ℕ → Rule
-roomRule room wanted = rule (ltb room wanted) tooShort []
 
 -- a block of `whole` bytes, of which `block` is written, into a buffer of `room` bytes
 unfoldable pub writing : ℕ → List ℕ → ℕ → Writing

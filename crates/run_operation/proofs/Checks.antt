@@ -7,7 +7,7 @@ use native.Mathlib.Omega.{arith}
 use lib.ListN.{length}
 use borrow.Author.Tests.{eq-eqb, ne-eqb, lt-ltb, le-ltb}
 use Rattle.promise.specs.Told.{given}
-use Rattle.promise.specs.Rules.{Rule, pick, orRefuse}
+use Rattle.promise.specs.Rules.{Rule, pick, orRefuse, differs}
 use Rattle.promise.proofs.Outcome.{unmet-first, met-first}
 use Rattle.protocol_bytes.specs.Signature.{noSignature, signatureIn}
 use Rattle.protocol_bytes.specs.Sector.{sectorSize}
@@ -23,7 +23,7 @@ use Rattle.mock_base.specs.declared.range.FlashSectors.the-variants as size
 use Rattle.operation_finish.specs.Reply.{Reply, blank}
 use Rattle.operation.specs.declared.steps.UsbOperation.{UsbOperation}
 use Rattle.operation.specs.Record.{transferLength}
-use Rattle.operation.specs.Step.{differs, dataRule}
+use Rattle.operation.specs.Step.{dataRule}
 use Rattle.mock.specs.declared.device.MockState.{MockState}
 use Rattle.mock.specs.Device.{storeRule}
 use Rattle.promise.specs.Run.{Ran, runs}

@@ -4,13 +4,11 @@ use mathlib.Core.Path.{_≡_}
 use mathlib.Core.List.{List, []}
 use lib.Dec.{eqb}
 use Rattle.promise.specs.Told.{Told, given, refused}
-use Rattle.promise.specs.Rules.{pick}
+use Rattle.promise.specs.Rules.{pick, differs, tooShort}
 use Rattle.protocol_bytes.specs.Signature.{noSignature}
-use Rattle.protocol_bytes.specs.Writing.{tooShort}
 use Rattle.mock_base.specs.Told.{errorTold, signatureBeside}
 use Rattle.operation_finish.specs.Reply.{Reply, finishTold, blank, badSignature, besideReply}
 use Rattle.operation_finish.specs.declared.Beside.{Beside}
-use Rattle.operation.specs.Step.{differs}
 use Rattle.promise.specs.Run.{Turned, ends, goes}
 use Rattle.run_turn.specs.declared.Stop.{Stop}
 use Rattle.run_turn.specs.declared.Stop.the-variants as stop

@@ -7,11 +7,10 @@ use lib.Dec.{eqb}
 use lib.ListN.{length}
 use borrow.Author.Tests.{eq-eqb, ne-eqb}
 use Rattle.promise.specs.Told.{refused}
-use Rattle.promise.specs.Rules.{Rule, rule, orRefuse}
+use Rattle.promise.specs.Rules.{Rule, rule, orRefuse, differs}
 use Rattle.promise.proofs.Outcome.{unmet-first, met-first}
 use Rattle.protocol_bytes.specs.Signature.{noSignature}
 use Rattle.protocol_bytes.specs.Sector.{sectorSize}
-use Rattle.maskrom.specs.Answers.{differs}
 use Rattle.mock_base.specs.Told.{errorNumber, errorValues}
 use Rattle.mock_base.specs.Flash.{flashRules, flashSectors, sizeTold}
 use Rattle.mock_base.specs.declared.error.MockTransportError.{MockTransportError}

@@ -7,16 +7,16 @@ use native.Mathlib.Omega.{arith}
 use lib.ListN.{length}
 use lib.Dec.{ltb, eqb}
 use Rattle.promise.specs.Told.{Told, given, refused, andThen}
-use Rattle.promise.specs.Rules.{orRefuse, pick}
+use Rattle.promise.specs.Rules.{orRefuse, pick, differs, tooShort}
 use Rattle.maskrom_transfer.specs.declared.MaskRomSteps.{MaskRomSteps}
 use Rattle.maskrom_transfer.specs.declared.MaskRomSteps.the-variants.{Writing, Check, Dummy, Done}
 use Rattle.maskrom_transfer.specs.declared.Moved.{Moved}
 use Rattle.promise.specs.Does.{Does, does, said, sent}
 use Rattle.maskrom_transfer.specs.Moves.{Moves, register, movesAt, blockSize}
-use Rattle.maskrom_transfer.specs.Sending.{tooShort, moved, sendStep}
+use Rattle.maskrom_transfer.specs.Sending.{moved, sendStep}
 use Rattle.maskrom.specs.declared.Control.{Control}
 use Rattle.maskrom.specs.declared.WholeUpload.{WholeUpload}
-use Rattle.maskrom.specs.Answers.{Asks, writes, finish, control, differs}
+use Rattle.maskrom.specs.Answers.{Asks, writes, finish, control}
 use Rattle.maskrom.specs.PartWise.{asks}
 use Rattle.maskrom.specs.Whole.{chunk, sentOn, sendsOn, wholeStep}
 

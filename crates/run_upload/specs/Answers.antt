@@ -4,8 +4,6 @@ use mathlib.Core.Path.{_≡_}
 use mathlib.Core.List.{List, []}
 use Rattle.promise.specs.Told.{Told, given, refused}
 use Rattle.protocol_bytes.specs.Signature.{noSignature}
-use Rattle.maskrom_transfer.specs.Sending.{tooShort}
-use Rattle.maskrom.specs.Answers.{differs}
 use Rattle.mock_base.specs.Told.{errorTold}
 use Rattle.promise.specs.Run.{Turned, ends, goes, End, tells, outOfSteps, Ran}
 use Rattle.run_upload.specs.declared.LoadStop.{LoadStop}
@@ -17,6 +15,7 @@ use Rattle.run_upload.specs.declared.LoadAnswer.the-variants as answer
 use Rattle.run_upload.specs.declared.LoadTurned.{LoadTurned}
 use Rattle.run_upload.specs.declared.LoadRun.{LoadRun}
 use Rattle.run_upload.specs.Load.{LoadState, loadState}
+use Rattle.promise.specs.Rules.{differs, tooShort}
 
 -- the finish, the device's refusal, or a step's
 unfoldable pub loadStopTold : LoadStop → Told Unit

@@ -5,11 +5,11 @@ use mathlib.Core.List.{List, [], _∷_, _++_}
 use lib.ListN.{length}
 use lib.Dec.{eqb}
 use Rattle.promise.specs.Told.{Told, given, refused}
-use Rattle.promise.specs.Rules.{Rule, rule, orRefuse}
+use Rattle.promise.specs.Rules.{Rule, rule, orRefuse, lentRule}
 use Rattle.promise.specs.Does.{said, sent, after}
 use Rattle.maskrom_transfer.specs.Moves.{blockSize}
 use Rattle.maskrom.specs.declared.WholeUpload.{WholeUpload}
-use Rattle.maskrom.specs.Answers.{Asks, writes, finish, differs}
+use Rattle.maskrom.specs.Answers.{Asks, writes, finish}
 use Rattle.maskrom.specs.Whole.{wholeStep}
 use Rattle.mock_base.specs.Flash.{flashRules}
 use Rattle.mock.specs.declared.device.MockState.{MockState}
@@ -50,7 +50,7 @@ loadTurn image s =
 unfoldable pub loadRules : LoadState → ℕ → ℕ → List Rule
 loadRules s flash image =
     flashRules flash
-    ++ (storeRule (s .device) (length (s .store)) ∷ rule (not (eqb image (s .upload .length))) differs [] ∷ [])
+    ++ (storeRule (s .device) (length (s .store)) ∷ lentRule (not (eqb image (s .upload .length))) ∷ [])
 
 -- a refusal before the first step takes none and changes nothing
 abbrev pub unstarted : LoadState → ℕ → List ℕ → Ran Unit LoadState

@@ -8,13 +8,13 @@ use native.Mathlib.Omega.{arith}
 use lib.ListN.{length}
 use borrow.Author.Tests.{lt-ltb}
 use Rattle.promise.specs.Told.{given, refused}
-use Rattle.promise.specs.Rules.{orRefuse}
+use Rattle.promise.specs.Rules.{orRefuse, differs}
 use Rattle.maskrom_transfer.specs.declared.MaskRomSteps.{MaskRomSteps}
 use Rattle.maskrom_transfer.specs.declared.MaskRomSteps.the-variants.{Done}
 use Rattle.maskrom.specs.declared.MaskRomOperation.{MaskRomOperation}
 use Rattle.maskrom.specs.declared.WholeUpload.{WholeUpload}
 use Rattle.maskrom_transfer.specs.Moves.{blockSize, moves, movesAt}
-use Rattle.maskrom.specs.Answers.{longest, differs, finish}
+use Rattle.maskrom.specs.Answers.{longest, finish}
 use Rattle.promise.specs.Does.{does, after}
 use Rattle.maskrom.specs.PartWise.{asks, withMoved, closeStep}
 use Rattle.maskrom.specs.Whole.{freshWhole, startStep, most, wholeStep}

@@ -10,11 +10,12 @@ use Rattle.maskrom_transfer.specs.declared.Moved.{Moved}
 use Rattle.maskrom_transfer.specs.Moves.{movesAt}
 use Rattle.maskrom_transfer.specs.Code.{SendMeets}
 use Rattle.promise.specs.Does.{does}
-use Rattle.maskrom_transfer.specs.Sending.{tooShort, sentTold, moved}
+use Rattle.maskrom_transfer.specs.Sending.{sentTold, moved}
 use Rattle.maskrom_transfer.proofs.Lists.{take-min}
 use Rattle.maskrom_transfer.proofs.Cases.{keeps, acts, moved-is, send-20, send-acts}
 use Rattle.maskrom_transfer.proofs.send.Statement.{statement}
 use Rattle.maskrom_transfer.proofs.send.Tie as tie
+use Rattle.promise.specs.Rules.{tooShort}
 
 returns : tie.Need-returns
 unfolding sentTold

@@ -10,7 +10,6 @@ use Rattle.protocol_bytes.specs.Signature.{noSignature}
 use Rattle.mock_base.specs.Told.{errorNumber, errorValues}
 use Rattle.mock_base.specs.declared.error.MockTransportError.the-variants as error
 use Rattle.operation.specs.Record.{transferLength}
-use Rattle.operation.specs.Step.{differs}
 use Rattle.promise.specs.Run.{runs}
 use Rattle.run_turn.specs.declared.Stop.the-variants as stop
 use Rattle.run_turn.specs.Turn.{usbState, isWrite, lentTo, usbTurn}
@@ -19,6 +18,7 @@ use Rattle.run_operation.specs.Code.{unstartedBy}
 use Rattle.run_operation.proofs.Checks.{device-unstarted, data-unstarted, flash-refused, store-refused, data-refused, unrefused, as-run, whole-size, refused-size, length-picked}
 use Rattle.run_operation.proofs.run_over.Statement.{statement}
 use Rattle.run_operation.proofs.run_over.Tie as tie
+use Rattle.promise.specs.Rules.{differs}
 
 returns : tie.Need-returns
 returns c =

@@ -9,10 +9,9 @@ use borrow.Author.Needs.{needs}
 use Rattle.promise.specs.Told.{Told, given, refused}
 use Rattle.promise.specs.Bytes.{front}
 use Rattle.promise.specs.Does.{said, sent, after}
-use Rattle.maskrom_transfer.specs.Sending.{tooShort}
 use Rattle.maskrom.specs.declared.Control.{Control}
 use Rattle.maskrom.specs.declared.WholeUpload.{WholeUpload}
-use Rattle.maskrom.specs.Answers.{Asks, writes, finish, stepTold, differs}
+use Rattle.maskrom.specs.Answers.{Asks, writes, finish, stepTold}
 use Rattle.maskrom.specs.Whole.{wholeStep}
 use Rattle.mock.specs.Device.{writeControl}
 use Rattle.promise.specs.Run.{Turned, ends}
@@ -24,6 +23,7 @@ use Rattle.run_upload.proofs.Sized.{whole-sized}
 use Rattle.run_upload.proofs.Cases.{turn-carries, turn-finishes, turn-refuses}
 use Rattle.run_upload.proofs.load_turn.Statement.{statement}
 use Rattle.run_upload.proofs.load_turn.Tie as tie
+use Rattle.promise.specs.Rules.{differs, tooShort}
 
 -- the block as it is lent to the step
 abbrev blank : List ℕ

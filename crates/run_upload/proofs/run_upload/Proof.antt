@@ -6,7 +6,6 @@ use denote.Ref.{now}
 use lib.ListN.{length}
 use borrow.Author.Needs.{needs}
 use Rattle.protocol_bytes.specs.Signature.{noSignature}
-use Rattle.maskrom.specs.Answers.{differs}
 use Rattle.mock_base.specs.Told.{errorNumber, errorValues}
 use Rattle.mock_base.specs.declared.error.MockTransportError.the-variants as error
 use Rattle.promise.specs.Run.{runs}
@@ -18,6 +17,7 @@ use Rattle.run_upload.specs.Code.{runBy}
 use Rattle.run_upload.proofs.Checks.{stopped, as-run, flash-refused, store-refused, image-refused, unrefused}
 use Rattle.run_upload.proofs.run_upload.Statement.{statement}
 use Rattle.run_upload.proofs.run_upload.Tie as tie
+use Rattle.promise.specs.Rules.{differs}
 
 returns : tie.Need-returns
 unfolding loadStopTold

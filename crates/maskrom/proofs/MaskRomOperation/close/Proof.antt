@@ -9,7 +9,7 @@ use Rattle.promise.specs.Told.{Told, given, refused}
 use Rattle.maskrom_transfer.specs.declared.Moved.{Moved}
 use Rattle.maskrom_transfer.specs.declared.Sent.{Sent}
 use Rattle.promise.specs.Does.{Does, Meets}
-use Rattle.maskrom_transfer.specs.Sending.{tooShort, sentTold, sendStep}
+use Rattle.maskrom_transfer.specs.Sending.{sentTold, sendStep}
 use Rattle.maskrom_transfer.proofs.Cases.{goes-on, passes-on}
 use Rattle.maskrom.specs.declared.MaskRomOperation.{MaskRomOperation}
 use Rattle.maskrom.specs.declared.CloseStepped.{CloseStepped}
@@ -17,6 +17,7 @@ use Rattle.maskrom.specs.Answers.{stepTold, Asks}
 use Rattle.maskrom.specs.PartWise.{held, asks, withMoved, closes, closeStep}
 use Rattle.maskrom.proofs.MaskRomOperation.close.Statement.{statement}
 use Rattle.maskrom.proofs.MaskRomOperation.close.Tie as tie
+use Rattle.promise.specs.Rules.{tooShort}
 
 -- what the caller's record comes to, once it is known what is told and handed back
 handed : (r : CloseStepped) (told : Told Asks) (next self : MaskRomOperation) (old new : List ℕ) → stepTold (r .step) ≡ told → r .next ≡ next

@@ -14,7 +14,6 @@ use Rattle.maskrom.specs.declared.MaskRomOperation.{MaskRomOperation}
 use Rattle.maskrom.specs.declared.Control.{Control}
 use Rattle.maskrom.specs.declared.PartStepped.{PartStepped}
 use Rattle.maskrom.specs.Answers.{tooLong, closedAlready, control, took, filled, partTold}
-use Rattle.maskrom_transfer.specs.Sending.{tooShort}
 use Rattle.promise.specs.Does.{does}
 use Rattle.maskrom.specs.PartWise.{waiting, held, closed, holding, takes, partStep}
 use Rattle.maskrom.proofs.Lists.{filled-block, filled-length}
@@ -23,6 +22,7 @@ use Rattle.maskrom_transfer.proofs.Cases.{keeps, acts}
 use Rattle.maskrom.proofs.Cases.{is-closed, part-20, part-26, part-25, part-takes, takes-full, takes-some}
 use Rattle.maskrom.proofs.MaskRomOperation.part.Statement.{statement}
 use Rattle.maskrom.proofs.MaskRomOperation.part.Tie as tie
+use Rattle.promise.specs.Rules.{tooShort}
 
 block-long : (s : tie.Start) → length (s .args .self .block) ≡ 4096
 block-long s = search needs

@@ -10,7 +10,7 @@ use Rattle.maskrom_transfer.specs.declared.Moved.{Moved}
 use Rattle.maskrom_transfer.specs.declared.Sent.{Sent}
 use Rattle.maskrom_transfer.specs.Moves.{register}
 use Rattle.promise.specs.Does.{Does, does, Meets}
-use Rattle.maskrom_transfer.specs.Sending.{tooShort, sentTold, sendStep}
+use Rattle.maskrom_transfer.specs.Sending.{sentTold, sendStep}
 use Rattle.maskrom_transfer.proofs.Cases.{goes-on, passes-on}
 use Rattle.maskrom.specs.declared.WholeUpload.{WholeUpload}
 use Rattle.maskrom.specs.declared.WholeStepped.{WholeStepped}
@@ -19,6 +19,7 @@ use Rattle.maskrom.specs.PartWise.{asks}
 use Rattle.maskrom.specs.Whole.{sentOn, sendsOn}
 use Rattle.maskrom.proofs.WholeUpload.send_on.Statement.{statement}
 use Rattle.maskrom.proofs.WholeUpload.send_on.Tie as tie
+use Rattle.promise.specs.Rules.{tooShort}
 
 -- what the caller's record comes to, once it is known what is told and handed back
 handed : (r : WholeStepped) (told : Told Asks) (next self : WholeUpload) (w old new : List ℕ) → stepTold (r .step) ≡ told → r .next ≡ next

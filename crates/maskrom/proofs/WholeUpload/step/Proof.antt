@@ -10,14 +10,14 @@ use Rattle.promise.specs.Told.{Told}
 use Rattle.maskrom.specs.declared.WholeUpload.{WholeUpload}
 use Rattle.maskrom.specs.declared.WholeStepped.{WholeStepped}
 use Rattle.promise.specs.Does.{Does, Meets}
-use Rattle.maskrom_transfer.specs.Sending.{tooShort}
 use Rattle.maskrom_transfer.proofs.Cases.{keeps}
-use Rattle.maskrom.specs.Answers.{differs, stepTold, Asks}
+use Rattle.maskrom.specs.Answers.{stepTold, Asks}
 use Rattle.maskrom.specs.Whole.{most, chunk, sendsOn}
 use Rattle.maskrom.proofs.Lists.{part-of}
 use Rattle.maskrom.proofs.Cases.{most-block, whole-20, whole-27, whole-sends}
 use Rattle.maskrom.proofs.WholeUpload.step.Statement.{statement}
 use Rattle.maskrom.proofs.WholeUpload.step.Tie as tie
+use Rattle.promise.specs.Rules.{differs, tooShort}
 
 returns : tie.Need-returns
 unfolding stepTold
