@@ -26,7 +26,7 @@ control-areas s type request value index bytes store sound =
     let a = appendStep (s .areas) index bytes store in
     let g = append-grows index bytes (s .areas) store sound in
     either-way (Controlled s index bytes store) (λ number values. record { told = refused number values; next = s; leaves = store })
-    (controlRules s type request value (length store)) (record { told = a .told; next = withAreas s (a .next); leaves = a .store })
+    (controlRules s type request value (length store)) (record { told = a .told; next = withAreas s (a .next); leaves = a .leaves })
     (λ n values. record { session = refl; long = refl; sound = sound; own = refl; others = λ b other. refl })
     (λ met. record { session = refl; long = g .long; sound = g .sound; own = g .own; others = g .others })
 
@@ -39,7 +39,7 @@ control-refused s type request value index bytes store n values =
     let a = appendStep (s .areas) index bytes store in
     either-way (λ (c : Call). c .told ≡ refused n values → (c .next ≡ s) × (c .leaves ≡ store))
     (λ number vs. record { told = refused number vs; next = s; leaves = store })
-    (controlRules s type request value (length store)) (record { told = a .told; next = withAreas s (a .next); leaves = a .store })
+    (controlRules s type request value (length store)) (record { told = a .told; next = withAreas s (a .next); leaves = a .leaves })
     (λ m vs e. (refl, refl))
     (λ met e. let r = append-refused index bytes (s .areas) store n values e in (ap (withAreas s) (r .0), r .1))
 

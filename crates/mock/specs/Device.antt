@@ -20,12 +20,11 @@ use Rattle.mock_effects.specs.Steps.{Step, writeStep, readStep}
 use Rattle.mock_base.specs.declared.config.MockDeviceConfig.{MockDeviceConfig}
 use Rattle.mock.specs.declared.device.MockState.{MockState}
 use Rattle.mock.specs.declared.device.MockStep.{MockStep}
+use Rattle.promise.specs.Does.{Comes}
 
 -- what is told, the next record, and the bytes lent mutably as they are left: flash, buffer or store
-pub record Call : Type 0 where
-  pub told : Told Unit
-  pub next : MockState
-  pub leaves : List ℕ
+abbrev pub Call : Type 0
+Call = Comes Unit MockState
 
 -- a call that answers r and leaves its bytes `after`
 pub record MockMeets (r : MockStep) (after : List ℕ) (c : Call) : Type 0 where
@@ -107,7 +106,7 @@ writeControl s type request value index bytes store =
     (record {
       told = appendStep (s .areas) index bytes store .told;
       next = withAreas s (appendStep (s .areas) index bytes store .next);
-      leaves = appendStep (s .areas) index bytes store .store;
+      leaves = appendStep (s .areas) index bytes store .leaves;
     })
 
 -- where an area's bytes stand, looked up by number

@@ -171,10 +171,10 @@ module _ (areas : Areas) (number i used : ℕ) (bytes store : List ℕ) (sound :
 
 -- what a write told so makes of the areas and the store: its own area gains, every other stays
 pub record Grows (number : ℕ) (bytes : List ℕ) (areas : Areas) (store : List ℕ) (o : Appending) : Type 0 where
-  pub long : length (o .store) ≡ length store
-  pub sound : Sound (o .next) (o .store)
-  pub own : contents number (o .next) (o .store) ≡ gains (o .told) bytes (contents number areas store)
-  pub others : (b : ℕ) → (b ≡ number → ⊥) → contents b (o .next) (o .store) ≡ contents b areas store
+  pub long : length (o .leaves) ≡ length store
+  pub sound : Sound (o .next) (o .leaves)
+  pub own : contents number (o .next) (o .leaves) ≡ gains (o .told) bytes (contents number areas store)
+  pub others : (b : ℕ) → (b ≡ number → ⊥) → contents b (o .next) (o .leaves) ≡ contents b areas store
 
 -- what the number holds stands in its place's slot, up to what is used of it
 held-so-far : (number : ℕ) (areas : Areas) (store : List ℕ)
@@ -215,11 +215,11 @@ append-grows number bytes areas store sound =
 -- a refused write changes nothing
 pub append-refused : (number : ℕ) (bytes : List ℕ) (areas : Areas) (store : List ℕ) (n : ℕ) (values : List ℕ)
     → appendStep areas number bytes store .told ≡ refused n values
-    → (appendStep areas number bytes store .next ≡ areas) × (appendStep areas number bytes store .store ≡ store)
+    → (appendStep areas number bytes store .next ≡ areas) × (appendStep areas number bytes store .leaves ≡ store)
 unfolding appendStep appendedAt
 append-refused number bytes areas store n values =
     let p = place number (areas .slots) in
-    either-way (λ (o : Appending). o .told ≡ refused n values → (o .next ≡ areas) × (o .store ≡ store)) (refusedAppend areas store)
+    either-way (λ (o : Appending). o .told ≡ refused n values → (o .next ≡ areas) × (o .leaves ≡ store)) (refusedAppend areas store)
     (appendRules p (length bytes) (length store)) (appendedAt areas p number bytes store) (λ m vs e. (refl, refl))
     (λ met e. let z : _≡_ {A = ℕ} 0 1 = cc in absurd (omega arith))
 
@@ -249,13 +249,13 @@ areas-gather number [] areas store sound = refl
 areas-gather number (w ∷ ws) areas store sound =
     let o = appendStep areas (w .number) (w .bytes) store in
     let g = append-grows (w .number) (w .bytes) areas store sound in
-    let now : contents number (o .next) (o .store)
+    let now : contents number (o .next) (o .leaves)
     ≡ pick (eqb number (w .number)) (gains (o .told) (w .bytes) (contents number areas store)) (contents number areas store) =
     on-test (eqb number (w .number))
     (λ e. rw (e, eqb-true number (w .number) e) (g .own))
     (λ e. rw e (g .others number (eqb-false number (w .number) e))) in
-    areas-gather number ws (o .next) (o .store) (g .sound)
-    ∙ ap (gathered number (o .next) (o .store) ws) now
+    areas-gather number ws (o .next) (o .leaves) (g .sound)
+    ∙ ap (gathered number (o .next) (o .leaves) ws) now
 
 -- a number that is found is held, and stands at its slot's start
 record Stands (areas : Areas) (number n start used : ℕ) : Type 0 where
@@ -293,7 +293,7 @@ outside-slot : (number : ℕ) (bytes : List ℕ) (areas : Areas) (store : List �
     → (a + n ≤ place number (areas .slots) .slot * slotSize (length store))
     ⊎ (place number (areas .slots) .slot * slotSize (length store) + slotSize (length store) ≤ a)
     → Met (appendRules (place number (areas .slots)) (length bytes) (length store))
-    → field a n (appendedAt areas (place number (areas .slots)) number bytes store .store) ≡ field a n store
+    → field a n (appendedAt areas (place number (areas .slots)) number bytes store .leaves) ≡ field a n store
 unfolding appendedAt appendRules
 outside-slot number bytes areas store a n apart met =
     let p = place number (areas .slots) in
@@ -310,9 +310,9 @@ outside-slot number bytes areas store a n apart met =
 pub slot-only : (number : ℕ) (bytes : List ℕ) (areas : Areas) (store : List ℕ) (a n : ℕ)
     → (a + n ≤ place number (areas .slots) .slot * slotSize (length store))
     ⊎ (place number (areas .slots) .slot * slotSize (length store) + slotSize (length store) ≤ a)
-    → field a n (appendStep areas number bytes store .store) ≡ field a n store
+    → field a n (appendStep areas number bytes store .leaves) ≡ field a n store
 unfolding appendStep
 slot-only number bytes areas store a n apart =
     let p = place number (areas .slots) in
-    either-way (λ (o : Appending). field a n (o .store) ≡ field a n store) (refusedAppend areas store) (appendRules p (length bytes) (length store))
+    either-way (λ (o : Appending). field a n (o .leaves) ≡ field a n store) (refusedAppend areas store) (appendRules p (length bytes) (length store))
     (appendedAt areas p number bytes store) (λ m values. refl) (outside-slot number bytes areas store a n apart)

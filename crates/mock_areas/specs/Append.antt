@@ -14,12 +14,11 @@ use Rattle.mock_areas.specs.declared.Place.{Place}
 use Rattle.mock_areas.specs.declared.AreaStep.{AreaStep}
 use Rattle.mock_areas.specs.declared.AreaAnswer.{AreaAnswer}
 use Rattle.mock_areas.specs.declared.AreaAnswer.the-variants.{Written, NoSlot, SlotFull}
+use Rattle.promise.specs.Does.{Comes}
 
 -- what is told, and the slots and the store afterwards
-pub record Appending : Type 0 where
-  pub told : Told Unit
-  pub next : Areas
-  pub store : List ℕ
+abbrev pub Appending : Type 0
+Appending = Comes Unit Areas
 
 -- the slot is held by the number, with so many bytes
 unfoldable pub heldBy : Areas → ℕ → ℕ → ℕ → Areas
@@ -31,7 +30,7 @@ appendRules p new n = rule (leb slotCount (p .slot)) 58 [] ∷ rule (ltb (slotSi
 
 -- a refusal changes nothing
 abbrev pub refusedAppend : Areas → List ℕ → ℕ → List ℕ → Appending
-refusedAppend areas store number values = record { told = refused number values; next = areas; store = store }
+refusedAppend areas store number values = record { told = refused number values; next = areas; leaves = store }
 
 -- a write appends and touches its own slot only
 unfoldable pub appendedAt : Areas → Place → ℕ → List ℕ → List ℕ → Appending
@@ -39,7 +38,7 @@ appendedAt areas p number bytes store =
     record {
       told = given tt;
       next = heldBy areas (p .slot) number (p .used + length bytes);
-      store = over (p .slot * slotSize (length store) + p .used) bytes store;
+      leaves = over (p .slot * slotSize (length store) + p .used) bytes store;
     }
 
 unfoldable pub appendStep : Areas → ℕ → List ℕ → List ℕ → Appending
@@ -56,4 +55,4 @@ areaTold SlotFull = refused 59 []
 pub record AppendMeets (r : AreaStep) (after : List ℕ) (a : Appending) : Type 0 where
   pub tells : areaTold (r .answer) ≡ a .told
   pub next : r .areas ≡ a .next
-  pub leaves : after ≡ a .store
+  pub leaves : after ≡ a .leaves

@@ -48,15 +48,15 @@ stepOf areas store w = appendStep areas (w .number) (w .bytes) store
 -- what is left after all of a list of writes, refused ones among them
 unfoldable pub areasAfter : Areas → List ℕ → List Write → Areas
 areasAfter areas store [] = areas
-areasAfter areas store (w ∷ ws) = areasAfter (stepOf areas store w .next) (stepOf areas store w .store) ws
+areasAfter areas store (w ∷ ws) = areasAfter (stepOf areas store w .next) (stepOf areas store w .leaves) ws
 
 unfoldable pub storeAfter : Areas → List ℕ → List Write → List ℕ
 storeAfter areas store [] = store
-storeAfter areas store (w ∷ ws) = storeAfter (stepOf areas store w .next) (stepOf areas store w .store) ws
+storeAfter areas store (w ∷ ws) = storeAfter (stepOf areas store w .next) (stepOf areas store w .leaves) ws
 
 -- what an area holds after them: the bytes of its own accepted writes, in order, behind what it held before
 unfoldable pub gathered : ℕ → Areas → List ℕ → List Write → Option (List ℕ) → Option (List ℕ)
 gathered number areas store [] before = before
 gathered number areas store (w ∷ ws) before =
-    gathered number (stepOf areas store w .next) (stepOf areas store w .store) ws
+    gathered number (stepOf areas store w .next) (stepOf areas store w .leaves) ws
     (pick (eqb number (w .number)) (gains (stepOf areas store w .told) (w .bytes) before) before)

@@ -11,12 +11,11 @@ use Rattle.mock_table.specs.declared.session.Session.{Session}
 use Rattle.mock_effects.specs.Effects.{flashAfter, bufferAfter}
 use Rattle.mock_base.specs.declared.config.MockDeviceConfig.{MockDeviceConfig}
 use Rattle.mock_effects.specs.declared.SessionStep.{SessionStep}
+use Rattle.promise.specs.Does.{Comes}
 
 -- what is told, the next session, and the bytes lent mutably as they are left: the flash of a write, the buffer of a read
-pub record Step : Type 0 where
-  pub told : Told Unit
-  pub next : Session
-  pub leaves : List ℕ
+abbrev pub Step : Type 0
+Step = Comes Unit Session
 
 -- 60 and 61 come before all else and keep the transaction
 abbrev pub keeps : Session → List ℕ → ℕ → List ℕ → Step

@@ -117,7 +117,7 @@ finish-meets end next told out m =
     record { tells = ap finishedTold (m .tells); beside = m .beside ∙ beside-finished told; next = refl; leaves = refl }
 
 pub give-meets : (answer : Giving) (next : UsbOperation) (told : Told Unit) (put old new : List ℕ) (r : UsbGiven)
-    → r ≡ gave answer next → givingTold answer ≡ told → new ≡ front put old → GiveMeets r old new (record { told = told; put = put; next = next })
+    → r ≡ gave answer next → givingTold answer ≡ told → new ≡ front put old → GiveMeets r old new (record { told = told; sent = put; next = next })
 give-meets answer next told put old new r e t l = rw e (record { tells = t; next = refl; leaves = l })
 
 pub give-22 : (op : UsbOperation) (bytes : List ℕ) (lent : ℕ) → giveOf asked.Nothing op bytes lent ≡ keeps op 22 []

@@ -160,7 +160,7 @@ taken-given asked.Inband op bytes n values e = let z : _≡_ {A = ℕ} 0 1 = cc 
 taken-given asked.Sectors op bytes n values e = let z : _≡_ {A = ℕ} 0 1 = cc in omega arith
 taken-given asked.Status op bytes n values e = let z : _≡_ {A = ℕ} 0 1 = cc in omega arith
 
-puts : (a : Asked) (op : UsbOperation) (bytes : List ℕ) → length bytes ≤ asksFor a op → length (received a op bytes .put) ≤ transferLength op
+puts : (a : Asked) (op : UsbOperation) (bytes : List ℕ) → length bytes ≤ asksFor a op → length (received a op bytes .sent) ≤ transferLength op
 unfolding received asksFor
 puts asked.Nothing op bytes few = omega arith
 puts asked.Inband op bytes few = omega arith
@@ -169,24 +169,24 @@ puts asked.Status op bytes few = omega arith
 
 -- "A refusal writes no lent buffer and changes no record"
 pub give-refused : (op : UsbOperation) (bytes : List ℕ) (lent n : ℕ) (values : List ℕ)
-    → usbGive op bytes lent .told ≡ refused n values → (usbGive op bytes lent .put ≡ []) × (usbGive op bytes lent .next ≡ op)
+    → usbGive op bytes lent .told ≡ refused n values → (usbGive op bytes lent .sent ≡ []) × (usbGive op bytes lent .next ≡ op)
 unfolding giveOf
 give-refused op bytes lent n values =
-    either-way (λ g. g .told ≡ refused n values → (g .put ≡ []) × (g .next ≡ op)) (keeps op) _ (received (op .asked) op bytes)
+    either-way (λ g. g .told ≡ refused n values → (g .sent ≡ []) × (g .next ≡ op)) (keeps op) _ (received (op .asked) op bytes)
     (λ m vs e. (refl, refl)) (λ met e. absurd (taken-given (op .asked) op bytes n values e))
 
 -- a giving writes no byte of the caller's data past the transfer length
-pub puts-at-most : (op : UsbOperation) (bytes : List ℕ) (lent : ℕ) → length (usbGive op bytes lent .put) ≤ transferLength op
+pub puts-at-most : (op : UsbOperation) (bytes : List ℕ) (lent : ℕ) → length (usbGive op bytes lent .sent) ≤ transferLength op
 unfolding giveOf
 puts-at-most op bytes lent =
-    either-way (λ g. length (g .put) ≤ transferLength op) (keeps op) _ (received (op .asked) op bytes) (λ n values. omega arith)
+    either-way (λ g. length (g .sent) ≤ transferLength op) (keeps op) _ (received (op .asked) op bytes) (λ n values. omega arith)
     (λ met. puts (op .asked) op bytes (ltb-false (asksFor (op .asked) op) (length bytes) (met .1 .0)))
 
 -- "an empty giving counts as the one": after the data buffer was filled from outside it is the same as giving those bytes
 pub record Alike (data₁ data₂ : List ℕ) (g₁ g₂ : Give) : Type 0 where
   pub told : g₁ .told ≡ g₂ .told
   pub next : g₁ .next ≡ g₂ .next
-  pub leaves : front (g₁ .put) data₁ ≡ front (g₂ .put) data₂
+  pub leaves : front (g₁ .sent) data₁ ≡ front (g₂ .sent) data₂
 
 pub empty-giving : (op : UsbOperation) (bytes data₀ : List ℕ) → op .asked ≡ asked.Sectors → length bytes ≤ transferLength op → transferLength op ≤ length data₀
     → Alike (front bytes data₀) data₀ (usbGive op [] (length (front bytes data₀))) (usbGive op bytes (length data₀))

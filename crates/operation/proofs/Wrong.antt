@@ -118,7 +118,7 @@ module _ (r : UsbGiven) (after : List ℕ) where
   pub data-untouched : GiveMeets r (0 ∷ []) after (usbGive reading (1 ∷ []) 1) → after ≡ 0 ∷ [] → ⊥
   unfolding received
   data-untouched meets e =
-      let z : _≡_ {A = ℕ} 0 1 = ap (λ (l : List ℕ). getD l 0 0) (sym e ∙ meets .leaves ∙ ap (λ (g : Give). front (g .put) (0 ∷ [])) byte-taken) in omega arith
+      let z : _≡_ {A = ℕ} 0 1 = ap (λ (l : List ℕ). getD l 0 0) (sym e ∙ meets .leaves ∙ ap (λ (g : Give). front (g .sent) (0 ∷ [])) byte-taken) in omega arith
 
 -- one number for every refusal of a step
 pub one-number-for-all : (n : ℕ) (b : Beside) → n ≡ number (stepTold step.OutputTooShort b) → n ≡ number (stepTold step.DataDiffers b) → ⊥

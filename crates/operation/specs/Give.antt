@@ -16,19 +16,18 @@ use Rattle.operation.specs.declared.steps.Giving.the-variants as giving
 use Rattle.operation.specs.declared.steps.UsbGiven.{UsbGiven}
 use Rattle.operation.specs.Record.{statusSize, transferLength, inbandLength, turned, withStatus, withInband}
 use Rattle.operation.specs.Step.{dataRule}
+use Rattle.promise.specs.Does.{Puts}
 
 -- what a giving tells, the bytes that it puts at the front of the caller's data, and the record that it hands back
-pub record Give : Type 0 where
-  pub told : Told Unit
-  pub put : List ℕ
-  pub next : UsbOperation
+abbrev pub Give : Type 0
+Give = Puts Unit UsbOperation
 
 abbrev pub takes : List ℕ → UsbOperation → Give
-takes put next = record { told = given tt; put = put; next = next }
+takes put next = record { told = given tt; sent = put; next = next }
 
 -- "A refusal writes no lent buffer and changes no record"
 abbrev pub keeps : UsbOperation → ℕ → List ℕ → Give
-keeps op n values = record { told = refused n values; put = []; next = op }
+keeps op n values = record { told = refused n values; sent = []; next = op }
 
 -- too many given, not asked
 abbrev pub tooMany : ℕ
@@ -88,4 +87,4 @@ givingTold giving.DataDiffers = refused differs []
 pub record GiveMeets (r : UsbGiven) (before after : List ℕ) (g : Give) : Type 0 where
   pub tells : givingTold (r .answer) ≡ g .told
   pub next : r .next ≡ g .next
-  pub leaves : after ≡ front (g .put) before
+  pub leaves : after ≡ front (g .sent) before

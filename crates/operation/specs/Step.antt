@@ -22,6 +22,7 @@ use Rattle.operation.specs.declared.steps.UsbStep.{UsbStep}
 use Rattle.operation.specs.declared.steps.UsbStep.the-variants as step
 use Rattle.operation.specs.declared.steps.UsbStepped.{UsbStepped}
 use Rattle.operation.specs.Record.{ioOf, statusSize, transferLength, inbandLength, turned, commanded, commandOut}
+use Rattle.promise.specs.Does.{Puts}
 
 -- what a step that is not refused asks for: a bulk write of the first 31 output bytes or of that many of the caller's data, a bulk read of that many
 -- bytes for what was asked, or nothing any more
@@ -32,10 +33,8 @@ pub data Asks : Type 0 where
   finished : Reply → Asks
 
 -- what a step tells, the bytes that it puts at the front of the output, and the record that it hands back
-pub record Step : Type 0 where
-  pub told : Told Asks
-  pub sent : List ℕ
-  pub next : UsbOperation
+abbrev pub Step : Type 0
+Step = Puts Asks UsbOperation
 
 abbrev pub does : Told Asks → List ℕ → UsbOperation → Step
 does told sent next = record { told = told; sent = sent; next = next }

@@ -1,4 +1,4 @@
--- The shape of a promise: what a call does that is not refused, and that a refused one does nothing.
+-- What comes of a call, and the shape of a promise.
 use Prim.Native.Nat.{ℕ}
 use mathlib.Core.Path.{_≡_}
 use mathlib.Core.List.{List, []}
@@ -33,3 +33,15 @@ pub record Meets {A R : Type 0} (told : Told A) (back : R) (before now : List �
   pub tells : told ≡ said step
   pub next : back ≡ after self step
   pub leaves : now ≡ front (sent step) before
+
+-- what comes of a call on lent bytes, refused or not: what is told, the next record, and the bytes lent mutably as they are left
+pub record Comes (A R : Type 0) : Type 0 where
+  pub told : Told A
+  pub next : R
+  pub leaves : List ℕ
+
+-- the same where a call puts bytes at the front of what it is lent and leaves every other byte
+pub record Puts (A R : Type 0) : Type 0 where
+  pub told : Told A
+  pub sent : List ℕ
+  pub next : R

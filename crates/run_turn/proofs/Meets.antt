@@ -110,17 +110,17 @@ read-meets r a what op next state flash bytes g m e same n t =
     ∙ as-received (a .result) (a .signature) (g .told) what op state flash bytes (g .leaves) (m .tells) same) t)
 
 -- an empty giving puts nothing into the caller's data
-received-none : (what : Asked) (op : UsbOperation) → give.received what op [] .put ≡ []
+received-none : (what : Asked) (op : UsbOperation) → give.received what op [] .sent ≡ []
 unfolding give.received
 received-none asked.Nothing op = refl
 received-none asked.Inband op = refl
 received-none asked.Sectors op = refl
 received-none asked.Status op = refl
 
-pub empty-put : (what : Asked) (op : UsbOperation) (lent : ℕ) → giveOf what op [] lent .put ≡ []
+pub empty-put : (what : Asked) (op : UsbOperation) (lent : ℕ) → giveOf what op [] lent .sent ≡ []
 unfolding giveOf
 empty-put what op lent =
-    either-way (λ (g : Give). g .put ≡ []) (keeps op)
+    either-way (λ (g : Give). g .sent ≡ []) (keeps op)
     (rule (nothingAsked what) 22 [] ∷ rule (ltb (asksFor what op) 0) 21 [] ∷ rule (ltb lent (owed what op)) 27 [] ∷ [])
     (give.received what op []) (λ n values. refl) (λ met. received-none what op)
 

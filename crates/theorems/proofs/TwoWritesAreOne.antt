@@ -89,8 +89,8 @@ as-one areas p number xs ys store inside =
 
 pub joined : (areas : Areas) (number : ℕ) (xs ys store : List ℕ) → length (areas .slots) ≡ slotCount
     → appendStep areas number xs store .told ≡ given tt
-    → appendStep (appendStep areas number xs store .next) number ys (appendStep areas number xs store .store) .told ≡ given tt
-    → appendStep (appendStep areas number xs store .next) number ys (appendStep areas number xs store .store) ≡ appendStep areas number (xs ++ ys) store
+    → appendStep (appendStep areas number xs store .next) number ys (appendStep areas number xs store .leaves) .told ≡ given tt
+    → appendStep (appendStep areas number xs store .next) number ys (appendStep areas number xs store .leaves) ≡ appendStep areas number (xs ++ ys) store
 unfolding heldBy appendedAt
 joined areas number xs ys store eight first second =
     let p = place number (areas .slots) in
@@ -99,8 +99,8 @@ joined areas number xs ys store eight first second =
     let inside : at + length xs ≤ length store = omega (arith, slot-inside (p .slot) (length store) (a .slot), a .room) in
     let slots = heldBy areas (p .slot) number (p .used + length xs) in
     let kept = over at xs store in
-    let now : appendStep (appendStep areas number xs store .next) number ys (appendStep areas number xs store .store) ≡ appendStep slots number ys kept =
-    ap (λ (o : Appending). appendStep (o .next) number ys (o .store)) (a .step) in
+    let now : appendStep (appendStep areas number xs store .next) number ys (appendStep areas number xs store .leaves) ≡ appendStep slots number ys kept =
+    ap (λ (o : Appending). appendStep (o .next) number ys (o .leaves)) (a .step) in
     let b = accepted slots number ys kept (ap (λ (o : Appending). o .told) (sym now) ∙ second) in
     let there = found-there number (areas .slots) eight (p .used + length xs) (a .slot) in
     let fits : p .used + length xs + length ys ≤ slotSize (length kept) = rw there at (b .room) in

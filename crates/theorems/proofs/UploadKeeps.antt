@@ -35,7 +35,7 @@ control-keeps device area bytes store =
     × (length (written device area bytes store .leaves) ≡ length store) =
     either-way (λ (c : Call). (c .next ≡ withAreas device (c .next .areas)) × (length (c .leaves) ≡ length store))
     (λ number values. record { told = refused number values; next = device; leaves = store })
-    (controlRules device 0x40 0xc 0 (length store)) (record { told = a .told; next = withAreas device (a .next); leaves = a .store })
+    (controlRules device 0x40 0xc 0 (length store)) (record { told = a .told; next = withAreas device (a .next); leaves = a .leaves })
     (λ n values. (refl, refl)) (λ met. (refl, append-long (device .areas) area bytes store)) in
     record { same = same .0; long = same .1; sound = λ s. control-areas device 0x40 0xc 0 area bytes store s .sound }
 

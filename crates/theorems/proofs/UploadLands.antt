@@ -32,7 +32,7 @@ use Rattle.theorems.proofs.TwoWritesAreOne.{accepted, joined}
 
 -- a write to an area, as the device's call
 abbrev asCall : MockState → Appending → Call
-asCall device a = record { told = a .told; next = withAreas device (a .next); leaves = a .store }
+asCall device a = record { told = a .told; next = withAreas device (a .next); leaves = a .leaves }
 
 -- where the store is of its length, a transfer is a write to its area
 as-append : (device : MockState) (area : ℕ) (bytes store : List ℕ) → length store ≡ device .«store_length»
@@ -46,11 +46,11 @@ module _ (device : MockState) (area : ℕ) (store : List ℕ) (sound : Sound (de
       → written next area ys leaves .told ≡ given tt → written next area ys leaves ≡ written device area (xs ++ ys) store
   two-transfers xs ys next leaves e t =
       let a = appendStep (device .areas) area xs store in
-      let b = appendStep (a .next) area ys (a .store) in
+      let b = appendStep (a .next) area ys (a .leaves) in
       let first : accepts next leaves ≡ asCall device a = sym e ∙ as-append device area xs store long in
       let second : written next area ys leaves ≡ asCall device b =
       ap (λ (c : Call). written (c .next) area ys (c .leaves)) first
-      ∙ as-append (withAreas device (a .next)) area ys (a .store) (append-long (device .areas) area xs store ∙ long) in
+      ∙ as-append (withAreas device (a .next)) area ys (a .leaves) (append-long (device .areas) area xs store ∙ long) in
       second
       ∙ ap (asCall device)
       (joined (device .areas) area xs ys store (sound .eight) (ap (λ (c : Call). c .told) (sym first)) (ap (λ (c : Call). c .told) (sym second) ∙ t))
@@ -135,4 +135,4 @@ module _ (area : ℕ) (checked : Bool) (image : List ℕ) (flash : ℕ) (device 
     unfolding appendedAt
     store-over =
         let told = ap (λ (c : Call). c .told) (sym as-written) in
-        ap (λ (c : Call). c .leaves) as-written ∙ ap (λ (a : Appending). a .store) (accepted (device .areas) area (uploadBytes checked image) store told .step)
+        ap (λ (c : Call). c .leaves) as-written ∙ ap (λ (a : Appending). a .leaves) (accepted (device .areas) area (uploadBytes checked image) store told .step)

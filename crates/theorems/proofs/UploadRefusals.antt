@@ -40,11 +40,11 @@ module _ (areas : Areas) (number : ℕ) (bytes store : List ℕ) where
       by-test (λ (o : Appending). UploadTold (o .told)) (leb slotCount (p .slot)) (λ e. no-slot)
       (λ e. by-test (λ (o : Appending). UploadTold (o .told)) (ltb (slotSize (length store)) (p .used + length bytes)) (λ f. slot-full) (λ f. accepted))
 
-  pub append-long : length (appendStep areas number bytes store .store) ≡ length store
+  pub append-long : length (appendStep areas number bytes store .leaves) ≡ length store
   unfolding appendStep appendRules appendedAt
   append-long =
       let p = place number (areas .slots) in
-      either-way (λ (o : Appending). length (o .store) ≡ length store) (refusedAppend areas store) (appendRules p (length bytes) (length store))
+      either-way (λ (o : Appending). length (o .leaves) ≡ length store) (refusedAppend areas store) (appendRules p (length bytes) (length store))
       (appendedAt areas p number bytes store) (λ n values. refl)
       (λ met.
       let slot = leb-false slotCount (p .slot) (met .0) in
@@ -62,7 +62,7 @@ module _ (device : MockState) (area : ℕ) (bytes store : List ℕ) where
   control-long e =
       let a = appendStep (device .areas) area bytes store in
       either-way (λ (c : Call). length (c .leaves) ≡ c .next .«store_length») (λ number values. record { told = refused number values; next = device; leaves = store })
-      (controlRules device 0x40 0xc 0 (length store)) (record { told = a .told; next = withAreas device (a .next); leaves = a .store })
+      (controlRules device 0x40 0xc 0 (length store)) (record { told = a .told; next = withAreas device (a .next); leaves = a .leaves })
       (λ n values. e) (λ met. append-long (device .areas) area bytes store ∙ e)
 
 loads-told : (area : ℕ) (pieces : List (List ℕ)) (k : ℕ) (device : MockState) (store : List ℕ) (r : Ran Unit LoadState) → Loads area pieces k device store r

@@ -28,7 +28,7 @@ returns-2 c =
           ∙ ap (λ (x : MockResult). whereDone x (usbGive (a .operation) (now (a .bytes)) (length (now (a .room))) .next) (a .operation)) (sym (c .before .before .before .before .before .enum-told .given .1)),
       λ e.
           v .ensures .leaves
-          ∙ ap (λ (l : List ℕ). front (usbGive (a .operation) l (length (now (a .room))) .put) (now (a .room))) e
+          ∙ ap (λ (l : List ℕ). front (usbGive (a .operation) l (length (now (a .room))) .sent) (now (a .room))) e
           ∙ ap (λ (l : List ℕ). front l (now (a .room))) (empty-put (a .operation .asked) (a .operation) (length (now (a .room)))),
     )
 
