@@ -26,8 +26,8 @@ use Rattle.operation.specs.declared.steps.UsbOperation.{UsbOperation}
 use Rattle.operation.specs.declared.steps.UsbStep.{UsbStep}
 use Rattle.operation.specs.declared.steps.UsbStep.the-variants as step
 use Rattle.operation.specs.declared.steps.UsbStepped.{UsbStepped}
-use Rattle.operation.specs.declared.steps.Giving.{Giving}
-use Rattle.operation.specs.declared.steps.UsbGiven.{UsbGiven}
+use Rattle.operation.specs.declared.giving.Giving.{Giving}
+use Rattle.operation.specs.declared.giving.UsbGiven.{UsbGiven}
 use Rattle.operation.specs.Record.{transferLength, commanded, commandOut, turned}
 use Rattle.operation.specs.Step.{Asks, writesCommand, does, stays, commandStep, sectorStep, finishedTold, stepTold, besideAsks, besideAt, stepOf, StepMeets}
 use Rattle.operation.specs.Code.{sectored, plain, gave}

@@ -18,9 +18,9 @@ use Rattle.operation.specs.declared.steps.UsbStep.{UsbStep}
 use Rattle.operation.specs.declared.steps.UsbStep.the-variants as step
 use Rattle.operation.specs.declared.steps.UsbOperation.{UsbOperation}
 use Rattle.operation.specs.declared.steps.UsbStepped.{UsbStepped}
-use Rattle.operation.specs.declared.steps.Giving.{Giving}
-use Rattle.operation.specs.declared.steps.Giving.the-variants as giving
-use Rattle.operation.specs.declared.steps.UsbGiven.{UsbGiven}
+use Rattle.operation.specs.declared.giving.Giving.{Giving}
+use Rattle.operation.specs.declared.giving.Giving.the-variants as giving
+use Rattle.operation.specs.declared.giving.UsbGiven.{UsbGiven}
 use Rattle.operation.specs.Step.{Asks, writesCommand, writesData, reads, finished, Step, finishedTold, stepTold, StepMeets}
 use Rattle.operation.specs.Give.{Give, givingTold, GiveMeets}
 

@@ -19,8 +19,8 @@ use Rattle.operation.specs.declared.steps.Asked.the-variants as asked
 use Rattle.operation.specs.declared.steps.UsbOperation.{UsbOperation}
 use Rattle.operation.specs.declared.steps.UsbStep.the-variants as step
 use Rattle.operation.specs.declared.steps.UsbStepped.{UsbStepped}
-use Rattle.operation.specs.declared.steps.Giving.the-variants as giving
-use Rattle.operation.specs.declared.steps.UsbGiven.{UsbGiven}
+use Rattle.operation.specs.declared.giving.Giving.the-variants as giving
+use Rattle.operation.specs.declared.giving.UsbGiven.{UsbGiven}
 use Rattle.operation.specs.Record.{fresh, afterCommand, turned, withStatus}
 use Rattle.operation.specs.Step.{writesCommand, Step, stepOf, usbStep, stepTold, StepMeets}
 use Rattle.operation.specs.Give.{Give, nothingAsked, asksFor, owed, received, usbGive, givingTold, GiveMeets}

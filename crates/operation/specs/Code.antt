@@ -11,8 +11,8 @@ use Rattle.operation.specs.declared.steps.UsbStep.{UsbStep}
 use Rattle.operation.specs.declared.steps.UsbStep.the-variants as step
 use Rattle.operation.specs.declared.steps.UsbStepped.{UsbStepped}
 use Rattle.operation.specs.Record.{transferLength, turned}
-use Rattle.operation.specs.declared.steps.Giving.{Giving}
-use Rattle.operation.specs.declared.steps.UsbGiven.{UsbGiven}
+use Rattle.operation.specs.declared.giving.Giving.{Giving}
+use Rattle.operation.specs.declared.giving.UsbGiven.{UsbGiven}
 
 -- the record that a step hands back, beside an answer with nothing beside it
 abbrev pub plain : UsbStep → UsbOperation → UsbStepped

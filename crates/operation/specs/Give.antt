@@ -11,9 +11,9 @@ use Rattle.promise.specs.Bytes.{front}
 use Rattle.operation.specs.declared.steps.Asked.{Asked}
 use Rattle.operation.specs.declared.steps.Asked.the-variants as asked
 use Rattle.operation.specs.declared.steps.UsbOperation.{UsbOperation}
-use Rattle.operation.specs.declared.steps.Giving.{Giving}
-use Rattle.operation.specs.declared.steps.Giving.the-variants as giving
-use Rattle.operation.specs.declared.steps.UsbGiven.{UsbGiven}
+use Rattle.operation.specs.declared.giving.Giving.{Giving}
+use Rattle.operation.specs.declared.giving.Giving.the-variants as giving
+use Rattle.operation.specs.declared.giving.UsbGiven.{UsbGiven}
 use Rattle.operation.specs.Record.{statusSize, transferLength, inbandLength, turned, withStatus, withInband}
 use Rattle.operation.specs.Step.{dataRule}
 use Rattle.promise.specs.Does.{Puts}

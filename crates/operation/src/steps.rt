@@ -12,10 +12,9 @@ ghost use Prim.Native.Nat.{ℕ, min, _≤_};
 ghost use lib.ListN.{length, take, drop, replicate};
 ghost use Rattle.promise.specs.Told.{number};
 ghost use Rattle.operation_finish.specs.declared.Beside.{Beside};
-ghost use Rattle.operation.specs.Record.{fresh, ioOf, afterCommand, turned, withStatus, withInband};
+ghost use Rattle.operation.specs.Record.{fresh, ioOf, afterCommand, turned, withStatus};
 ghost use Rattle.operation.specs.Step.{stepTold, StepMeets, commandStep, ioStep, statusStep, finishStep, usbStep};
-ghost use Rattle.operation.specs.Code.{plain, sectored, gave};
-ghost use Rattle.operation.specs.Give.{givingTold, GiveMeets, giveOf, usbGive};
+ghost use Rattle.operation.specs.Code.{plain, sectored};
 
 // Where an operation stands: what its next step does.
 pub enum Operation {
@@ -91,40 +90,11 @@ pub struct UsbStepped {
     pub next: UsbOperation,
 }
 
-pub enum Giving {
-    Taken,
-    // 22
-    NotAsked,
-    // 21
-    TooMany,
-    // 27
-    DataDiffers,
-}
+pub(crate) const INBAND: usize = 16;
 
-impl Giving {
-    // The document's number, 0 where the bytes were taken.
-    pub fn number(self) -> u8
-        ensures { λ r. ⌜ r ≡ number (givingTold self) ⌝ }
-    {
-        match self {
-            Giving::Taken => 0,
-            Giving::NotAsked => 22,
-            Giving::TooMany => 21,
-            Giving::DataDiffers => 27,
-        }
-    }
-}
+pub(crate) const STATUS: usize = 13;
 
-pub struct UsbGiven {
-    pub answer: Giving,
-    pub next: UsbOperation,
-}
-
-const INBAND: usize = 16;
-
-const STATUS: usize = 13;
-
-fn least(a: usize, b: usize) -> usize
+pub(crate) fn least(a: usize, b: usize) -> usize
     ensures { λ r. ⌜ r ≡ min a b ⌝ }
 {
     if a < b { a } else { b }
@@ -190,7 +160,7 @@ impl UsbOperation {
         }
     }
 
-    fn turned_to(self, next: Operation, asked: Asked) -> UsbOperation
+    pub(crate) fn turned_to(self, next: Operation, asked: Asked) -> UsbOperation
         ensures { λ r. ⌜ r ≡ turned self next asked ⌝ }
     {
         let kind = self.kind;
@@ -208,19 +178,10 @@ impl UsbOperation {
     }
 
     // The status is given.
-    fn with_status(mut self, command_bytes: [u8; 13]) -> UsbOperation
+    pub(crate) fn with_status(mut self, command_bytes: [u8; 13]) -> UsbOperation
         ensures { λ r. ⌜ r ≡ withStatus self «command_bytes» ⌝ }
     {
         self.command_bytes = command_bytes;
-        let next = self.next;
-        self.turned_to(next, Asked::Nothing)
-    }
-
-    // A reply is given.
-    fn with_inband(mut self, data: [u8; 16]) -> UsbOperation
-        ensures { λ r. ⌜ r ≡ withInband self «data» ⌝ }
-    {
-        self.data = data;
         let next = self.next;
         self.turned_to(next, Asked::Nothing)
     }
@@ -320,62 +281,6 @@ impl UsbOperation {
             Operation::IO => self.io_step(data.len()),
             Operation::CommandStatus => self.status_step(),
             Operation::Finish => self.finish_step(),
-        }
-    }
-
-    fn gives(self, answer: Giving) -> UsbGiven
-        ensures { λ r. ⌜ r ≡ gave answer self ⌝ }
-    {
-        UsbGiven { answer, next: self }
-    }
-
-    fn give_inband(self, bytes: &[u8]) -> UsbGiven
-        ensures { λ r. ⌜ ((lent : List ℕ) → GiveMeets r lent lent (giveOf Asked.Inband self (now (bytes .entry)) (length lent))) ⌝ }
-    {
-        if least(self.command.transfer_length as usize, INBAND) < bytes.len() {
-            return self.gives(Giving::TooMany);
-        }
-        let mut data = self.data;
-        bytes::copy(bytes, &mut data);
-        self.with_inband(data).gives(Giving::Taken)
-    }
-
-    fn give_sectors(self, bytes: &[u8], data: &mut [u8]) -> UsbGiven
-        ensures { λ r. ⌜ GiveMeets r (now («data» .entry)) (now («data» .exit)) (giveOf Asked.Sectors self (now (bytes .entry)) (length (now («data» .entry)))) ⌝ }
-    {
-        let length = self.command.transfer_length as usize;
-        if length < bytes.len() {
-            return self.gives(Giving::TooMany);
-        }
-        if data.len() < length {
-            return self.gives(Giving::DataDiffers);
-        }
-        bytes::copy(bytes, data);
-        let next = self.next;
-        self.turned_to(next, Asked::Nothing).gives(Giving::Taken)
-    }
-
-    fn give_status(self, bytes: &[u8]) -> UsbGiven
-        ensures { λ r. ⌜ ((lent : List ℕ) → GiveMeets r lent lent (giveOf Asked.Status self (now (bytes .entry)) (length lent))) ⌝ }
-    {
-        if STATUS < bytes.len() {
-            return self.gives(Giving::TooMany);
-        }
-        let mut command_bytes = self.command_bytes;
-        bytes::copy(bytes, &mut command_bytes);
-        self.with_status(command_bytes).gives(Giving::Taken)
-    }
-
-    // Received bytes, for the read that the last step asked for. A sector read's go into the caller's data.
-    pub fn give(self, bytes: &[u8], data: &mut [u8]) -> UsbGiven
-        ensures { λ r. ⌜ GiveMeets r (now («data» .entry)) (now («data» .exit)) (usbGive self (now (bytes .entry)) (length (now («data» .entry)))) ⌝ }
-    {
-        let asked = self.asked;
-        match asked {
-            Asked::Nothing => self.gives(Giving::NotAsked),
-            Asked::Inband => self.give_inband(bytes),
-            Asked::Sectors => self.give_sectors(bytes, data),
-            Asked::Status => self.give_status(bytes),
         }
     }
 }

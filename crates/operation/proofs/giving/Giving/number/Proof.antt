@@ -3,9 +3,9 @@ use mathlib.Core.Path.{ap, sym, _∙_}
 use borrow.Author.Needs.{needs}
 use Rattle.promise.specs.Told.{number}
 use Rattle.operation.specs.Give.{givingTold}
-use Rattle.operation.specs.declared.steps.Giving.{Giving}
-use Rattle.operation.proofs.steps.Giving.number.Statement.{statement}
-use Rattle.operation.proofs.steps.Giving.number.Tie as tie
+use Rattle.operation.specs.declared.giving.Giving.{Giving}
+use Rattle.operation.proofs.giving.Giving.number.Statement.{statement}
+use Rattle.operation.proofs.giving.Giving.number.Tie as tie
 
 pub number-spec : {M : Type 1} → statement M
 unfolding number givingTold
