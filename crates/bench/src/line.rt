@@ -1,7 +1,7 @@
 // The line of a block: its number, 0 or the refusal, and the value. Nothing here is lent, so that no caller owes a length.
+use deck::verdict::Verdict;
 use operation_finish::Beside;
 use operation_finish::UsbReply;
-use deck::verdict::Verdict;
 
 // Two numbers of at most 20 and 3 digits, a value of at most 32, two spaces and a line feed.
 pub(crate) const LONGEST: usize = 64;

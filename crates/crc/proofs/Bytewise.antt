@@ -9,7 +9,7 @@ use lib.Seq.{ext-getD}
 use lib.Pow.{split}
 use lib.Bits.{bitXor, xor-shifted, xor-zero-l, xor-zero-r, xor-comm}
 use Rattle.crc.specs.Check.{byteStep, bitsStep, bitStep}
-use Rattle.crc.specs.Table.{rows, entry, crcTable}
+use Rattle.crc.specs.Table.{rows, entry}
 use Rattle.crc.proofs.Xor.{xor-shl, xor-twice}
 use Rattle.crc.proofs.Linear.{byte-linear}
 

@@ -3,7 +3,6 @@ use Prim.Native.Nat.{ℕ}
 use mathlib.Core.Path.{_≡_, ap, ap₂, sym, _∙_}
 use mathlib.Core.List.{List}
 use Rattle.operation_finish.specs.declared.Beside.{Beside}
-use Rattle.mock.specs.declared.device.MockState.{MockState}
 use Rattle.deck.specs.declared.verdict.Verdict.{Verdict}
 use Rattle.deck.specs.Deal.{Head, head}
 use Rattle.deck.proofs.VerdictUnique.{same-verdict}

@@ -36,7 +36,7 @@ use Rattle.deck.specs.declared.verdict.Verdict.{Verdict}
 use Rattle.deck.specs.declared.verdict.Verdict.the-variants.{Done, Refused}
 use Rattle.deck.specs.declared.verdict.Dealt.{Dealt}
 use Rattle.deck.specs.Verdict.{numbered, loadTold, verdictTold, besideDealt, kept}
-use Rattle.deck.specs.Deal.{Head, head, operatedBy, loadedBy, away, turnedAway, DealMeets, OperatedMeets, LoadedMeets}
+use Rattle.deck.specs.Deal.{head, operatedBy, loadedBy, away, turnedAway, DealMeets, OperatedMeets, LoadedMeets}
 
 -- a refusal is told by its number alone
 abbrev IsRefusal : {A : Type 0} → Told A → Type 0

@@ -5,7 +5,6 @@ use mathlib.Core.List.{List, [], _∷_}
 use native.Mathlib.Omega.{arith}
 use lib.ListN.{getD}
 use Rattle.promise.specs.Told.{Told, number}
-use Rattle.operation_finish.specs.Reply.{Reply}
 use Rattle.operation_finish.specs.declared.Beside.{Beside}
 use Rattle.mock.specs.declared.device.MockState.{MockState}
 use Rattle.deck_block.specs.declared.Request.{Request}

@@ -4,8 +4,8 @@ use mathlib.Core.Path.{_≡_, ap, sym, _∙_}
 use mathlib.Core.List.{List, [], _∷_}
 use native.Mathlib.Omega.{arith}
 use lib.ListN.{getD}
-use Rattle.promise.specs.Told.{Told, refused, number}
-use Rattle.operation_finish.specs.Reply.{Reply, blank}
+use Rattle.promise.specs.Told.{number}
+use Rattle.operation_finish.specs.Reply.{blank}
 use Rattle.operation_finish.specs.declared.UsbReply.{UsbReply}
 use Rattle.operation_finish.specs.declared.Beside.{Beside}
 use Rattle.promise.specs.Run.{endTold}

@@ -1,9 +1,9 @@
 // A deck: one 512-byte block after the other, each dealt to the stand-in.
 use crate::dealing::deal_block;
-use operation_finish::Beside;
+use crate::verdict::Verdict;
 use mock::config::MockDeviceConfig;
 use mock::device::MockState;
-use crate::verdict::Verdict;
+use operation_finish::Beside;
 ghost use mathlib.Core.Path.{_≡_};
 ghost use lib.ListN.{length};
 ghost use Rattle.deck.specs.Bench.{freshBench, StepMeets};

@@ -1,8 +1,11 @@
 // One block of a deck dealt to the stand-in.
+use crate::verdict::Dealt;
+use crate::verdict::loaded;
+use crate::verdict::operated;
+use crate::verdict::turned_away;
 use deck_block::CardAnswer;
 use deck_block::Request;
 use deck_block::read_card;
-use run_upload::run_whole_upload;
 use maskrom::WholeUpload;
 use maskrom::write_area;
 use maskrom::write_area_no_crc;
@@ -18,13 +21,10 @@ use operation::starts::reset_device;
 use operation::starts::storage;
 use operation::starts::switch_storage;
 use operation::starts::write_lba;
+use operation::steps::UsbOperation;
 use run_operation::run_whole;
 use run_operation::run_whole_write;
-use operation::steps::UsbOperation;
-use crate::verdict::Dealt;
-use crate::verdict::loaded;
-use crate::verdict::operated;
-use crate::verdict::turned_away;
+use run_upload::run_whole_upload;
 ghost use mathlib.Core.Path.{_≡_};
 ghost use mathlib.Core.List.{[]};
 ghost use Prim.Native.Nat.{_≤_, _*_};

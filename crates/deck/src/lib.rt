@@ -1,3 +1,3 @@
-pub mod verdict;
-pub mod dealing;
 pub mod bench;
+pub mod dealing;
+pub mod verdict;

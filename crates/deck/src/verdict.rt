@@ -1,14 +1,14 @@
 // What a block of a deck comes to: 0 with its value, or the number of a refusal.
+use mock::device::MockState;
 use operation_finish::Beside;
 use operation_finish::FinishAnswer;
 use operation_finish::UsbReply;
-use run_upload::LoadAnswer;
-use run_upload::LoadRun;
-use run_upload::LoadStop;
-use mock::device::MockState;
 use run_operation::RunAnswer;
 use run_operation::UsbRun;
 use run_turn::Stop;
+use run_upload::LoadAnswer;
+use run_upload::LoadRun;
+use run_upload::LoadStop;
 ghost use mathlib.Core.Path.{_≡_};
 ghost use Rattle.promise.specs.Told.{number};
 ghost use Rattle.promise.specs.Run.{endTold};

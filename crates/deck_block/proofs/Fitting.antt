@@ -8,10 +8,9 @@ use borrow.Author.Tests.{ltb-false}
 use lib.ListN.{length}
 use Rattle.promise.specs.Told.{Told, given, refused}
 use Rattle.promise.specs.Bytes.{AreBytes, fromHigh, fromLow}
-use Rattle.protocol_bytes.proofs.Short.{elements, field-elements}
+use Rattle.protocol_bytes.proofs.Short.{field-elements}
 use Rattle.protocol_codes.specs.declared.ResetOpcode.{ResetOpcode}
 use Rattle.protocol_codes.specs.Reading.{resetOf}
-use Rattle.deck_block.specs.declared.Fields.{Fields}
 use Rattle.deck_block.specs.declared.Request.{Request}
 use Rattle.deck_block.specs.declared.Request.the-variants as request
 use Rattle.deck_block.specs.Block.{fieldsOf, tooLarge}

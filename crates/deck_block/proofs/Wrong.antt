@@ -8,7 +8,7 @@ use borrow.Author.Tests.{eq-eqb}
 use lib.Dec.{lit<}
 use lib.ListN.{length, take, replicate, length-append}
 use lib.Seq.{take-at, drop-at}
-use Rattle.promise.specs.Told.{Told, given, refused, number}
+use Rattle.promise.specs.Told.{given, refused, number}
 use Rattle.promise.specs.Rules.{orRefuse, rule, unless}
 use Rattle.promise.specs.Bytes.{field, lowFirst, highFirst, fromLow, fromHigh}
 use Rattle.promise.proofs.Order.{from-high-first}

@@ -9,4 +9,5 @@ pub mod SectorsTold
 pub mod WrongSectors
 -- `WrongFields`: programs that the contracts rule out.
 pub mod WrongFields
+
 -- Nothing beside the functions.

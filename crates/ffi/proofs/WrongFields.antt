@@ -5,7 +5,7 @@ use mathlib.Core.List.{List, [], _++_}
 use native.Mathlib.Omega.{arith}
 use lib.Dec.{lit<, lit≤}
 use lib.ListN.{getD, replicate}
-use Rattle.promise.specs.Told.{given, refused, number}
+use Rattle.promise.specs.Told.{number}
 use Rattle.promise.specs.Rules.{orRefuse}
 use Rattle.promise.specs.Bytes.{lowFirst, highFirst, front}
 use Rattle.protocol_bytes.specs.Writing.{writing}

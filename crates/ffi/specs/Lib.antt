@@ -5,4 +5,5 @@ pub mod Code
 pub mod Sectors
 -- `Command`: a command as one number.
 pub mod Command
+
 -- Nothing beside the definitions of the crates below.

@@ -1,7 +1,7 @@
-mod uploads;
-pub mod drive;
 pub mod carry;
+pub mod drive;
 pub mod fields;
+mod uploads;
 // What C and Rust link: the proved functions over numbers and byte slices, each with the contract of the one that it calls.
 ghost use mathlib.Core.Path.{_≡_};
 ghost use lib.ListN.{length};

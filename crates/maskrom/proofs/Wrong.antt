@@ -23,7 +23,7 @@ use Rattle.maskrom.specs.declared.CloseStepped.{CloseStepped}
 use Rattle.maskrom.specs.declared.WholeStepped.{WholeStepped}
 use Rattle.maskrom.specs.declared.UploadStart.the-variants as start
 use Rattle.maskrom.specs.declared.WholeStart.{WholeStart}
-use Rattle.maskrom.specs.Answers.{longest, tooLong, control, Handed, Asks, writes, finish, partTold, stepTold, startTold}
+use Rattle.maskrom.specs.Answers.{longest, tooLong, Handed, Asks, writes, finish, partTold, stepTold, startTold}
 use Rattle.maskrom.specs.PartWise.{fresh, withBlock, closed, takes, partStep, asks, closeStep}
 use Rattle.maskrom.specs.Whole.{freshWhole, startStep, StartMeets, most, sendsOn, wholeStep}
 use Rattle.maskrom.proofs.Cases.{part-takes}

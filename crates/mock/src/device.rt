@@ -1,17 +1,17 @@
 // The device's record, handed in and back by value; its flash and its area store are lent.
+use mock_areas::AreaAnswer;
+use mock_areas::AreaFound;
+use mock_areas::AreaStep;
+use mock_areas::Areas;
+use mock_base::config::MockDeviceConfig;
 use mock_base::error::MockAnswer;
 use mock_base::error::MockResult;
 use mock_base::error::MockTransportError;
 use mock_base::range::flash_sectors;
 use mock_base::range::size_answer;
-use mock_areas::AreaAnswer;
-use mock_areas::AreaFound;
-use mock_areas::AreaStep;
-use mock_areas::Areas;
 use mock_effects::SessionStep;
 use mock_effects::read_step;
 use mock_effects::write_step;
-use mock_base::config::MockDeviceConfig;
 use mock_table::session::CommandState;
 use mock_table::session::LastReset;
 use mock_table::session::Session;

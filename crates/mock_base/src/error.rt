@@ -1,6 +1,6 @@
 // The stand-in's answers: done, or one of the refusals 50 to 61 and 65.
-use protocol_codes::CommandCode;
 use protocol::CommandBlockParseError;
+use protocol_codes::CommandCode;
 ghost use mathlib.Core.Path.{_≡_};
 ghost use mathlib.Core.List.{List};
 ghost use Prim.Native.Nat.{ℕ};

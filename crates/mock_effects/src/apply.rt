@@ -1,12 +1,12 @@
 // What an effect of the transaction table does to the flash, or to the buffer of a read.
-use mock_base::range::FlashRange;
-use protocol_bytes::SECTOR_SIZE;
 use bytes;
-use protocol_codes::Status;
 use mock_base::config::MockDeviceConfig;
-use protocol_status::report::CommandStatus;
+use mock_base::range::FlashRange;
 use mock_table::outcome::Effect;
 use mock_table::outcome::ReplyKind;
+use protocol_bytes::SECTOR_SIZE;
+use protocol_codes::Status;
+use protocol_status::report::CommandStatus;
 ghost use mathlib.Core.Path.{_≡_};
 ghost use Prim.Native.Nat.{_+_, _*_, _/_, _≤_};
 ghost use lib.ListN.{length, replicate};

@@ -1,13 +1,13 @@
 // A bulk call over the session alone: the table's outcome, applied.
 mod apply;
 
+use apply::apply_to_buffer;
+use apply::apply_to_flash;
+use mock_base::config::MockDeviceConfig;
 use mock_base::error::MockAnswer;
 use mock_base::range::FlashSectors;
 use mock_base::range::flash_sectors;
 use mock_base::range::size_answer;
-use apply::apply_to_buffer;
-use apply::apply_to_flash;
-use mock_base::config::MockDeviceConfig;
 use mock_table::outcome::Outcome;
 use mock_table::reading::read_outcome;
 use mock_table::session::Session;

@@ -1,9 +1,9 @@
 // The calls over a session that is lent. Each hands a copy of the record to the by-value step, stores what comes back, and returns the answer.
 use super::record::start_step;
+use mock_base::config::MockDeviceConfig;
 use mock_base::error::MockAnswer;
 use mock_effects::read_step;
 use mock_effects::write_step;
-use mock_base::config::MockDeviceConfig;
 use mock_table::session::Session;
 ghost use mathlib.Core.Path.{_≡_};
 ghost use mathlib.Core.List.{[]};

@@ -23,7 +23,6 @@ use Rattle.mock_table.specs.Table.{rangeOf, rangeRule, lengthRule, secto
 use Rattle.mock_table.specs.declared.session.CommandState.{CommandState}
 use Rattle.mock_table.specs.declared.session.CommandState.the-variants.{None, IO, Status}
 use Rattle.mock_table.specs.declared.session.LastReset.{LastReset}
-use Rattle.mock_table.specs.declared.session.LastReset.the-variants as reset
 use Rattle.mock_table.specs.declared.session.Session.{Session}
 use Rattle.mock_table.specs.declared.outcome.Effect.{Effect}
 use Rattle.mock_table.specs.declared.outcome.Effect.the-variants.{Nothing, Fill, Store, Supply, Reply}

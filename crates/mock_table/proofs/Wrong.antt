@@ -11,7 +11,7 @@ use Rattle.protocol.specs.Commands.{sectorCommand, writeLbaCommand, chipInfoCom
 use Rattle.protocol.specs.declared.CommandBlock.{CommandBlock}
 use Rattle.mock_base.specs.Flash.{fitsIn}
 use Rattle.mock_base.specs.Told.{resultTold}
-use Rattle.mock_table.specs.Turn.{session, refuses, done, hasCode, isIn, isOut, movedBy, replySize, OutcomeMeets}
+use Rattle.mock_table.specs.Turn.{session, refuses, done, hasCode, isIn, isOut, replySize, OutcomeMeets}
 use Rattle.mock_table.specs.Table.{sectorTurn, writeIoTurn, writeRow, writeTurn, replyTurn, codeTurn, readIoTurn, statusTurn, readRow, readTurn}
 use Rattle.mock_table.specs.declared.session.CommandState.{CommandState}
 use Rattle.mock_table.specs.declared.session.CommandState.the-variants.{None, IO, Status}

@@ -1,6 +1,6 @@
 // What the stand-in remembers from one bulk call to the next.
-use protocol_codes::ResetOpcode;
 use protocol::CommandBlock;
+use protocol_codes::ResetOpcode;
 
 // The transaction.
 pub enum CommandState {

@@ -4,7 +4,7 @@ use mathlib.Core.Path.{_≡_}
 use mathlib.Core.List.{List, [], _∷_}
 use lib.Dec.{ltb}
 use Rattle.promise.specs.Told.{Told, given, refused, andThen}
-use Rattle.promise.specs.Rules.{Rule, rule, orRefuse, differs, lentRule, roomRule, tooShort}
+use Rattle.promise.specs.Rules.{Rule, orRefuse, differs, lentRule, roomRule, tooShort}
 use Rattle.promise.specs.Bytes.{front}
 use Rattle.protocol_bytes.specs.Signature.{noSignature}
 use Rattle.protocol.specs.CommandBytes.{commandLength}

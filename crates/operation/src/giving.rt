@@ -1,10 +1,10 @@
 // Received bytes, for the read that the last step asked for.
-use bytes;
 use crate::steps::Asked;
 use crate::steps::INBAND;
 use crate::steps::STATUS;
 use crate::steps::UsbOperation;
 use crate::steps::least;
+use bytes;
 ghost use mathlib.Core.Path.{_≡_};
 ghost use mathlib.Core.List.{List};
 ghost use Prim.Native.Nat.{ℕ};

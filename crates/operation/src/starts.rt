@@ -1,11 +1,11 @@
 // The operations of a device in the full USB protocol, each at its start.
-use protocol_codes::ResetOpcode;
-use protocol_codes::StorageIndex;
+use crate::steps::UsbOperation;
 use operation_finish::Kind;
 use protocol::CommandBlock;
+use protocol_codes::ResetOpcode;
+use protocol_codes::StorageIndex;
 use protocol_reply::size::SectorAnswer;
 use protocol_reply::size::sector_count;
-use crate::steps::UsbOperation;
 ghost use mathlib.Core.Path.{_≡_};
 ghost use Rattle.protocol.specs.Commands.{chipInfoCommand, flashIdCommand, flashInfoCommand, capabilityCommand, storageCommand, eraseLbaCommand, eraseForceCommand, resetCommand, switchCommand, readLbaCommand, writeLbaCommand};
 ghost use Rattle.protocol_reply.specs.Sectors.{sectorTold};

@@ -1,11 +1,11 @@
 // One USB operation, step by step: the command out, data if there is any, the status in, the finish; then it starts again.
-use protocol_bytes::output::Written;
 use bytes;
 use operation_finish::Beside;
 use operation_finish::FinishAnswer;
 use operation_finish::Kind;
 use operation_finish::finish_of;
 use protocol::CommandBlock;
+use protocol_bytes::output::Written;
 ghost use mathlib.Core.Path.{_≡_};
 ghost use mathlib.Core.List.{List, _++_};
 ghost use Prim.Native.Nat.{ℕ, min, _≤_};

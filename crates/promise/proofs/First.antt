@@ -3,7 +3,7 @@ use Prim.Native.Nat.{ℕ}
 use mathlib.Core.Path.{_≡_, refl}
 use mathlib.Core.Bool.{Bool, true, false}
 use mathlib.Core.List.{List, [], _∷_, _++_}
-use Rattle.promise.specs.Rules.{Rule, rule, pick, orRefuse}
+use Rattle.promise.specs.Rules.{Rule, orRefuse}
 use Rattle.promise.proofs.Outcome.{Met}
 
 pub all-met : {A : Type 0} (refuse : ℕ → List ℕ → A) (rules : List Rule) (done : A) → Met rules → orRefuse refuse rules done ≡ done

@@ -4,7 +4,7 @@ use mathlib.Core.Path.{_≡_, refl, ap, sym, _∙_}
 use native.Mathlib.Nat.{zero-add, add-zero, add-assoc, sub-zero, sub-self}
 use native.Mathlib.Omega.{arith}
 use Rattle.promise.specs.Told.{Told}
-use Rattle.promise.specs.Run.{Turned, ends, goes, End, tells, outOfSteps, Ran, ran, counted, follow, runs}
+use Rattle.promise.specs.Run.{Turned, ends, goes, tells, outOfSteps, Ran, ran, counted, follow, runs}
 
 -- `used` steps of a run that is `whole` in the end brought it to s
 pub record On {A S : Type 0} (turn : S → Turned A S) (budget used : ℕ) (whole : Ran A S) (s : S) : Type 0 where

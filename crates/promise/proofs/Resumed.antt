@@ -5,7 +5,7 @@ use native.Mathlib.Nat.{zero-add, suc-add, add-assoc}
 use native.Mathlib.Numerals.{one-add}
 use native.Mathlib.Omega.{arith}
 use Rattle.promise.specs.Told.{Told}
-use Rattle.promise.specs.Run.{Turned, ends, goes, End, tells, outOfSteps, Ran, ran, counted, follow, runs}
+use Rattle.promise.specs.Run.{Turned, ends, goes, tells, outOfSteps, Ran, ran, counted, follow, runs}
 
 -- a run with none, or with more steps before it
 pub counted-none : {A S : Type 0} (r : Ran A S) → counted 0 r ≡ r

@@ -1,7 +1,7 @@
 -- A run with a budget, by recursion on the budget. A turn is one step call and the transfer that it asks for.
 use Prim.Native.Nat.{ℕ, zero, suc, _+_}
 use mathlib.Core.List.{[]}
-use Rattle.promise.specs.Told.{Told, given, refused}
+use Rattle.promise.specs.Told.{Told, refused}
 
 -- what a turn comes to: the last of the run, with what is told, or one more to follow
 pub data Turned (A S : Type 0) : Type 0 where

@@ -1,4 +1,5 @@
 // The command block: what our operations ask, written into 31 bytes and read back.
+use bytes;
 use protocol_bytes::SECTOR_SIZE;
 use protocol_bytes::order::u16_from_be_bytes;
 use protocol_bytes::order::u16_to_be_bytes;
@@ -8,7 +9,6 @@ use protocol_bytes::order::u32_to_be_bytes;
 use protocol_bytes::order::u32_to_le_bytes;
 use protocol_bytes::output::Written;
 use protocol_bytes::signature::starts_with;
-use bytes;
 use protocol_codes::CodeRead;
 use protocol_codes::CommandCode;
 use protocol_codes::Direction;

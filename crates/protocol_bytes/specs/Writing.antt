@@ -4,7 +4,7 @@ use mathlib.Core.Path.{_≡_}
 use mathlib.Core.List.{List, [], _∷_}
 use lib.Dec.{ltb}
 use Rattle.promise.specs.Told.{Told, given, refused}
-use Rattle.promise.specs.Rules.{Rule, pick, rule, unless, roomRule, tooShort}
+use Rattle.promise.specs.Rules.{pick, unless, roomRule, tooShort}
 use Rattle.promise.specs.Bytes.{front}
 use Rattle.protocol_bytes.specs.declared.output.Written.{Written}
 use Rattle.protocol_bytes.specs.declared.output.Written.the-variants.{Bytes, TooShort}

@@ -1,11 +1,11 @@
 // The status block: how the device says that a command went, in 13 bytes.
+use bytes;
 use protocol_bytes::order::u32_from_be_bytes;
 use protocol_bytes::order::u32_from_le_bytes;
 use protocol_bytes::order::u32_to_be_bytes;
 use protocol_bytes::order::u32_to_le_bytes;
 use protocol_bytes::output::Written;
 use protocol_bytes::signature::starts_with;
-use bytes;
 use protocol_codes::Status;
 use protocol_codes::StatusRead;
 ghost use mathlib.Core.Path.{_≡_};

@@ -5,11 +5,11 @@ use crate::told::none;
 use crate::told::two;
 use crate::told::with_small;
 use protocol_codes::StorageIndex;
-use replay_lines::buffer::copy;
 use protocol_reply::flags::Capability;
 use protocol_reply::info::ChipInfo;
 use protocol_reply::info::FlashId;
 use protocol_reply::info::FlashInfo;
+use replay_lines::buffer::copy;
 
 pub fn widened(bytes: &[u8]) -> [u8; 16] {
     let mut wide = [0u8; 16];

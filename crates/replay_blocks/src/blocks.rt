@@ -2,12 +2,17 @@
 use crate::commands::Built;
 use crate::commands::command;
 use crate::replies;
-use protocol_bytes::output::Written;
-use protocol_codes::Status;
-use protocol_codes::StatusRead;
 use protocol::CommandAnswer;
 use protocol::CommandBlock;
 use protocol::CommandParse;
+use protocol_bytes::output::Written;
+use protocol_codes::Status;
+use protocol_codes::StatusRead;
+use protocol_status::failure::UsbOperationError;
+use protocol_status::report::CommandStatus;
+use protocol_status::report::CommandStatusParseError;
+use protocol_status::report::StatusAnswer;
+use protocol_status::report::StatusParse;
 use replay_answers::refusals::command_error;
 use replay_answers::refusals::operation_error;
 use replay_answers::told::Told;
@@ -27,11 +32,6 @@ use replay_lines::names::CWR;
 use replay_lines::names::SMP;
 use replay_lines::names::SRD;
 use replay_lines::names::STO;
-use protocol_status::failure::UsbOperationError;
-use protocol_status::report::CommandStatus;
-use protocol_status::report::CommandStatusParseError;
-use protocol_status::report::StatusAnswer;
-use protocol_status::report::StatusParse;
 
 fn fields(block: CommandBlock) -> Told {
     nine(

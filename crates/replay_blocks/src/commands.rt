@@ -1,7 +1,7 @@
 // The operations that a line names, with their arguments, as command blocks.
+use protocol::CommandBlock;
 use protocol_codes::ResetOpcode;
 use protocol_codes::ResetRead;
-use protocol::CommandBlock;
 use replay_answers::values::IndexRead;
 use replay_answers::values::index;
 use replay_lines::asked::Asked;

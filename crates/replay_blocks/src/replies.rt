@@ -1,4 +1,12 @@
 // "Replies": each read by its own wrapper, and sector data by its length.
+use protocol_reply::flags::Capability;
+use protocol_reply::info::ChipInfo;
+use protocol_reply::info::FlashId;
+use protocol_reply::info::FlashInfo;
+use protocol_reply::media::StorageAnswer;
+use protocol_reply::media::storage_index;
+use protocol_reply::size::SectorAnswer;
+use protocol_reply::size::sector_count;
 use replay_answers::told::Answer;
 use replay_answers::told::Told;
 use replay_answers::told::nine;
@@ -19,14 +27,6 @@ use replay_lines::names::CAP;
 use replay_lines::names::CHP;
 use replay_lines::names::FID;
 use replay_lines::names::FIN;
-use protocol_reply::flags::Capability;
-use protocol_reply::info::ChipInfo;
-use protocol_reply::info::FlashId;
-use protocol_reply::info::FlashInfo;
-use protocol_reply::media::StorageAnswer;
-use protocol_reply::media::storage_index;
-use protocol_reply::size::SectorAnswer;
-use protocol_reply::size::sector_count;
 
 fn flash_id(bytes: &[u8]) -> FlashId {
     let mut id = [0u8; 5];

@@ -1,12 +1,13 @@
 // "The device": raw calls on the current device.
-use mock_base::error::MockAnswer;
-use mock_base::error::MockResult;
-use mock_base::error::MockTransportError;
-use mock_areas::AreaFound;
 use mock::config::DEFAULT_SECTORS;
 use mock::config::MockDeviceConfig;
 use mock::device::MockState;
 use mock::device::MockStep;
+use mock_areas::AreaFound;
+use mock_base::error::MockAnswer;
+use mock_base::error::MockResult;
+use mock_base::error::MockTransportError;
+use mock_table::session::LastReset;
 use replay_answers::out::value;
 use replay_answers::refusals::command_error;
 use replay_answers::told::Answer;
@@ -35,7 +36,6 @@ use replay_lines::names::BWR;
 use replay_lines::names::CTL;
 use replay_lines::names::DVC;
 use replay_lines::names::DVD;
-use mock_table::session::LastReset;
 
 // The current device: whether there is one, its record, and the lengths of its flash and store, which stand in buffers of their own.
 pub struct Device {

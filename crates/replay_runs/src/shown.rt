@@ -2,6 +2,7 @@
 use mock_areas::Area;
 use mock_areas::AreaFound;
 use mock_areas::Areas;
+use mock_table::session::LastReset;
 use replay_answers::out::decimal;
 use replay_answers::out::section;
 use replay_answers::out::spaced_bytes;
@@ -12,7 +13,6 @@ use replay_device::devices::Device;
 use replay_device::devices::reset_told;
 use replay_lines::buffer::between;
 use replay_lines::line::after;
-use mock_table::session::LastReset;
 
 fn count_of(slots: [Area; 8]) -> u64 {
     let mut count = 0;

@@ -1,9 +1,4 @@
 // "Operations": the current operation, stepped by hand.
-use protocol_codes::ResetOpcode;
-use protocol_codes::ResetRead;
-use operation_finish::Beside;
-use operation_finish::FinishAnswer;
-use operation_finish::UsbReply;
 use operation::starts::UsbStart;
 use operation::starts::capability;
 use operation::starts::chip_info;
@@ -15,6 +10,14 @@ use operation::starts::read_lba;
 use operation::starts::reset_device;
 use operation::starts::switch_storage;
 use operation::starts::write_lba;
+use operation::steps::UsbOperation;
+use operation::steps::UsbStep;
+use operation_finish::Beside;
+use operation_finish::FinishAnswer;
+use operation_finish::UsbReply;
+use protocol_codes::ResetOpcode;
+use protocol_codes::ResetRead;
+use protocol_reply::size::SectorAnswer;
 use replay_answers::refusals::operation_error;
 use replay_answers::told::Answer;
 use replay_answers::told::Tail;
@@ -51,9 +54,6 @@ use replay_lines::names::STO;
 use replay_lines::names::STP;
 use replay_lines::names::SWI;
 use replay_lines::names::WRL;
-use protocol_reply::size::SectorAnswer;
-use operation::steps::UsbOperation;
-use operation::steps::UsbStep;
 
 // The current operation: whether there is one, its record, and the length of the caller's data, which stands in a buffer of its own.
 pub struct Current {

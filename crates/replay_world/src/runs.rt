@@ -2,10 +2,6 @@
 use crate::world::World;
 use crate::world::stays;
 use operation_finish::Beside;
-use run_upload::LoadAnswer;
-use run_upload::LoadRun;
-use run_upload::LoadStop;
-use run_upload::run_upload;
 use replay_answers::told::Answer;
 use replay_answers::told::Told;
 use replay_answers::told::none;
@@ -24,6 +20,10 @@ use replay_steps::uploads::upload_of;
 use run_operation::RunAnswer;
 use run_operation::UsbRun;
 use run_turn::Stop;
+use run_upload::LoadAnswer;
+use run_upload::LoadRun;
+use run_upload::LoadStop;
+use run_upload::run_upload;
 
 fn stop_answer(stop: Stop, beside: Beside) -> Answer {
     let signature = beside.signature;

@@ -9,14 +9,14 @@ use Rattle.operation_finish.specs.declared.Beside.{Beside}
 use Rattle.operation_finish.specs.declared.Kind.{Kind}
 use Rattle.operation.specs.declared.steps.UsbOperation.{UsbOperation}
 use Rattle.mock.specs.declared.device.MockState.{MockState}
-use Rattle.promise.specs.Run.{Turned, ends, goes, tells, outOfSteps, Ran, ran, runs}
+use Rattle.promise.specs.Run.{Turned, ends, goes, tells, Ran, runs}
 use Rattle.promise.proofs.Loop.{On, begins, goes-on, stops, spent}
 use Rattle.run_turn.specs.declared.Stop.{Stop}
 use Rattle.run_turn.specs.declared.Turn.{Turn}
 use Rattle.run_turn.specs.declared.Turn.the-variants as turn
 use Rattle.run_turn.specs.declared.UsbTurned.{UsbTurned}
 use Rattle.run_turn.specs.Turn.{UsbState, usbState, lentTo, usbTurn}
-use Rattle.run_turn.specs.Answers.{stopTold, besideTold, turnTold, besideTurned, TurnMeets}
+use Rattle.run_turn.specs.Answers.{stopTold, turnTold, besideTurned, TurnMeets}
 use Rattle.run_turn.proofs.Kept.{OfKind, kind-kept}
 use Rattle.run_operation.specs.declared.RunAnswer.{RunAnswer}
 use Rattle.run_operation.specs.declared.RunAnswer.the-variants as answer

@@ -1,11 +1,11 @@
 // Budgeted runs of an operation against the stand-in device.
+use mock::device::MockState;
 use mock_base::error::MockTransportError;
 use mock_base::range::FlashSectors;
 use mock_base::range::flash_sectors;
+use operation::steps::UsbOperation;
 use operation_finish::Beside;
 use operation_finish::Kind;
-use mock::device::MockState;
-use operation::steps::UsbOperation;
 use run_turn::Stop;
 use run_turn::Turn;
 use run_turn::is_write;

@@ -21,7 +21,7 @@ use Rattle.operation.specs.declared.steps.Operation.the-variants as operation
 use Rattle.operation.specs.declared.steps.Asked.{Asked}
 use Rattle.operation.specs.declared.steps.Asked.the-variants as asked
 use Rattle.operation.specs.declared.steps.UsbOperation.{UsbOperation}
-use Rattle.operation.specs.Record.{ioOf, transferLength, inbandLength, turned, commandOut}
+use Rattle.operation.specs.Record.{ioOf, transferLength, turned}
 use Rattle.operation.specs.Step.{Asks, writesCommand, writesData, reads, finished, Step, does, stays, sectorStep, commandStep, ioStep, statusStep, finishedTold, finishStep, stepOf, usbStep}
 use Rattle.run_turn.specs.Turn.{isWrite}
 

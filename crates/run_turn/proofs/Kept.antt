@@ -18,7 +18,7 @@ use Rattle.operation.specs.declared.steps.Asked.the-variants as asked
 use Rattle.operation.specs.declared.steps.UsbOperation.{UsbOperation}
 use Rattle.operation.specs.Record.{ioOf, transferLength, turned, commandOut, commanded}
 use Rattle.operation.specs.Step.{Asks, writesCommand, writesData, reads, finished, Step, does, stays, sectorStep, commandStep, ioStep, statusStep, finishStep, stepOf, usbStep}
-use Rattle.operation.specs.Give.{Give, keeps, nothingAsked, asksFor, owed, received, giveOf, usbGive}
+use Rattle.operation.specs.Give.{Give, keeps, nothingAsked, asksFor, owed, received, giveOf}
 use Rattle.mock.specs.Device.{writeBulk, readBulk}
 use Rattle.promise.specs.Run.{Turned, ends, goes}
 use Rattle.run_turn.specs.Turn.{UsbState, usbState, onward, bufferFor, landed, gives, transfers, usbTurn}

@@ -15,7 +15,6 @@ use Rattle.promise.specs.Bytes.{front}
 use Rattle.promise.proofs.Outcome.{either-way}
 use Rattle.protocol_bytes.specs.Signature.{signatureIn}
 use Rattle.protocol_status.specs.Failure.{failureNumber, failureValues}
-use Rattle.protocol_status.specs.declared.failure.UsbOperationError.{UsbOperationError}
 use Rattle.protocol_status.specs.declared.failure.UsbOperationError.the-variants as failure
 use Rattle.mock_base.specs.Told.{errorNumber, errorValues, errorTold, resultTold, innerSignature, signatureBeside, Answers}
 use Rattle.mock_base.specs.declared.error.MockTransportError.{MockTransportError}
@@ -34,7 +33,7 @@ use Rattle.operation.specs.declared.steps.UsbStep.{UsbStep}
 use Rattle.operation.specs.declared.steps.UsbStep.the-variants as step
 use Rattle.operation.specs.declared.steps.UsbStepped.{UsbStepped}
 use Rattle.operation.proofs.steps.UsbStep.{the-type}
-use Rattle.operation.specs.Step.{Asks, writesCommand, writesData, reads, finished, finishedTold, usbStep, stepTold, besideAsks, besideAt, StepMeets}
+use Rattle.operation.specs.Step.{Asks, finishedTold, usbStep, stepTold, besideAsks, besideAt, StepMeets}
 use Rattle.operation.specs.Give.{Give, keeps, nothingAsked, asksFor, owed, giveOf}
 use Rattle.operation.specs.Give as give
 use Rattle.mock.specs.declared.device.MockState.{MockState}
@@ -44,7 +43,7 @@ use Rattle.run_turn.specs.declared.UsbTurned.{UsbTurned}
 use Rattle.run_turn.specs.Turn.{UsbState, usbState, onward, wrote, landed, gives, received, got, bufferFor, transfers, usbTurn}
 use Rattle.run_turn.specs.Answers.{stopTold, signatureTold, besideTold, turnTold, besideTurned, TurnMeets}
 use Rattle.run_turn.specs.Code.{turnAfter, whereDone, stopAt, turnedBy, endedBy}
-use Rattle.run_turn.proofs.Fine.{Fine, FineRead, fine}
+use Rattle.run_turn.proofs.Fine.{Fine, fine}
 
 -- the device's answer
 

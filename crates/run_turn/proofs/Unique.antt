@@ -19,8 +19,6 @@ use Rattle.operation_finish.specs.declared.Beside.{Beside}
 use Rattle.operation_finish.specs.declared.FinishAnswer.{FinishAnswer}
 use Rattle.operation_finish.specs.declared.FinishAnswer.the-variants.{Replied, Failed}
 use Rattle.operation_finish.proofs.Unique.{answerOf, answer-of}
-use Rattle.operation.specs.declared.steps.UsbOperation.{UsbOperation}
-use Rattle.mock.specs.declared.device.MockState.{MockState}
 use Rattle.promise.specs.Run.{Turned, ends, goes}
 use Rattle.run_turn.specs.declared.Stop.{Stop}
 use Rattle.run_turn.specs.declared.Stop.the-variants as stop

@@ -1,15 +1,15 @@
 // One turn of a run: a step of an operation and the transfer that it asks for, at the stand-in device.
+use mock::device::MockState;
+use mock::device::MockStep;
 use mock_base::error::MockAnswer;
 use mock_base::error::MockResult;
 use mock_base::error::MockTransportError;
-use operation_finish::Beside;
-use operation_finish::FinishAnswer;
-use operation_finish::Kind;
-use mock::device::MockState;
-use mock::device::MockStep;
 use operation::steps::UsbOperation;
 use operation::steps::UsbStep;
 use operation::steps::UsbStepped;
+use operation_finish::Beside;
+use operation_finish::FinishAnswer;
+use operation_finish::Kind;
 ghost use mathlib.Core.Path.{_≡_};
 ghost use mathlib.Core.List.{List, []};
 ghost use Prim.Native.Nat.{ℕ, _≤_};

@@ -5,7 +5,7 @@ use mathlib.Core.Bool.{Bool, true, false, not}
 use mathlib.Core.List.{List, [], _∷_}
 use lib.ListN.{length}
 use lib.Dec.{leb, ltb, eqb}
-use Rattle.promise.specs.Told.{Told, given, refused}
+use Rattle.promise.specs.Told.{Told, refused}
 use Rattle.promise.specs.Rules.{pick, orRefuse}
 use Rattle.protocol_bytes.specs.Signature.{noSignature}
 use Rattle.mock_areas.specs.declared.Areas.{Areas}

@@ -16,7 +16,7 @@ use Rattle.maskrom_transfer.specs.Moves.{Moves, register, movesAt, blockSize}
 use Rattle.maskrom_transfer.specs.Sending.{moved, sendStep}
 use Rattle.maskrom.specs.declared.Control.{Control}
 use Rattle.maskrom.specs.declared.WholeUpload.{WholeUpload}
-use Rattle.maskrom.specs.Answers.{Asks, writes, finish, control}
+use Rattle.maskrom.specs.Answers.{Asks, writes, control}
 use Rattle.maskrom.specs.PartWise.{asks}
 use Rattle.maskrom.specs.Whole.{chunk, sentOn, sendsOn, wholeStep}
 

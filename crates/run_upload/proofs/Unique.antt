@@ -7,7 +7,7 @@ use lib.Dec.{eqb}
 use Rattle.promise.specs.Told.{Told, given, refused}
 use Rattle.promise.specs.Rules.{pick}
 use Rattle.protocol_bytes.specs.Signature.{noSignature}
-use Rattle.mock_base.specs.Told.{errorNumber, errorValues, errorTold, resultTold}
+use Rattle.mock_base.specs.Told.{errorNumber, resultTold}
 use Rattle.mock_base.proofs.Unique.{resultFrom, result-from}
 use Rattle.mock_base.specs.declared.error.MockTransportError.{MockTransportError}
 use Rattle.mock_base.specs.declared.error.MockTransportError.the-variants as error

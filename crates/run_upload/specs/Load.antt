@@ -5,7 +5,7 @@ use mathlib.Core.List.{List, [], _∷_, _++_}
 use lib.ListN.{length}
 use lib.Dec.{eqb}
 use Rattle.promise.specs.Told.{Told, given, refused}
-use Rattle.promise.specs.Rules.{Rule, rule, orRefuse, lentRule}
+use Rattle.promise.specs.Rules.{Rule, orRefuse, lentRule}
 use Rattle.promise.specs.Does.{said, sent, after}
 use Rattle.maskrom_transfer.specs.Moves.{blockSize}
 use Rattle.maskrom.specs.declared.WholeUpload.{WholeUpload}

@@ -8,15 +8,15 @@ ghost use Rattle.run_upload.specs.Load.{loadState, carried, loadTurn, lo
 ghost use Rattle.mock.specs.Device.{writeControl};
 ghost use Rattle.run_upload.specs.Answers.{loadStopTold, answerEnd, TurnMeets, RunMeets};
 ghost use Rattle.run_upload.specs.Code.{turnedBy, runBy, afterControl};
-use mock_base::error::MockResult;
-use mock_base::error::MockTransportError;
-use mock_base::range::FlashSectors;
-use mock_base::range::flash_sectors;
 use maskrom::Control;
 use maskrom::UploadStep;
 use maskrom::WholeUpload;
 use mock::device::MockState;
 use mock::device::MockStep;
+use mock_base::error::MockResult;
+use mock_base::error::MockTransportError;
+use mock_base::range::FlashSectors;
+use mock_base::range::flash_sectors;
 
 // What a run stops with.
 pub enum LoadStop {

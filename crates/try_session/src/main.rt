@@ -1,9 +1,9 @@
 // One session of the stand-in, lent from call to call: a write, a read, an erase, a reset and a refusal. A line for each call and one for the record after
 // each command; README.md beside says how the expected lines were worked out.
+use libc::STDOUT_FILENO;
+use mock_base::config::MockDeviceConfig;
 use mock_base::error::MockAnswer;
 use mock_effects::SessionStep;
-use mock_base::config::MockDeviceConfig;
-use libc::STDOUT_FILENO;
 use mock_session::bulk::read_bulk;
 use mock_session::bulk::write_bulk;
 use mock_session::record::fresh;

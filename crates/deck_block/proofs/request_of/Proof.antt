@@ -2,8 +2,7 @@
 use mathlib.Core.Path.{_≡_, refl, ap, sym, _∙_}
 use borrow.Author.Needs.{needs}
 use borrow.Author.Tests.{ne-eqb}
-use Rattle.promise.specs.Told.{Told, given}
-use Rattle.deck_block.specs.declared.Request.{Request}
+use Rattle.promise.specs.Told.{given}
 use Rattle.deck_block.specs.Reading.{cardTold, requestOf}
 use Rattle.deck_block.proofs.request_of.Statement.{statement}
 use Rattle.deck_block.proofs.request_of.Tie as tie

@@ -3,7 +3,6 @@ use mathlib.Core.Path.{ap}
 use borrow.Author.Needs.{needs}
 use Rattle.operation_finish.specs.declared.Beside.{Beside}
 use Rattle.run_operation.specs.declared.RunAnswer.the-variants.{Ended}
-use Rattle.run_operation.specs.declared.UsbRun.{UsbRun}
 use Rattle.run_operation.proofs.Going.{madeOf}
 use Rattle.run_operation.proofs.unstarted.Statement.{statement}
 use Rattle.run_operation.proofs.unstarted.Tie as tie

@@ -1,7 +1,6 @@
 -- By cases on the kind.
 use mathlib.Core.Path.{ap, sym}
 use borrow.Author.Needs.{needs}
-use Rattle.operation_finish.specs.declared.Kind.{Kind}
 use Rattle.run_turn.specs.Turn.{isWrite}
 use Rattle.run_turn.proofs.is_write.Statement.{statement}
 use Rattle.run_turn.proofs.is_write.Tie as tie

@@ -6,17 +6,17 @@ use native.Mathlib.Omega.{arith}
 use lib.ListN.{length, take, replicate, length-replicate}
 use denote.Ref.{now}
 use borrow.Author.Needs.{needs}
-use Rattle.promise.specs.Told.{Told, given, refused}
+use Rattle.promise.specs.Told.{given, refused}
 use Rattle.promise.specs.Bytes.{front}
-use Rattle.promise.specs.Does.{said, sent, after}
+use Rattle.promise.specs.Does.{said, sent}
 use Rattle.maskrom.specs.declared.Control.{Control}
 use Rattle.maskrom.specs.declared.WholeUpload.{WholeUpload}
-use Rattle.maskrom.specs.Answers.{Asks, writes, finish, stepTold}
+use Rattle.maskrom.specs.Answers.{writes, stepTold}
 use Rattle.maskrom.specs.Whole.{wholeStep}
 use Rattle.mock.specs.Device.{writeControl}
-use Rattle.promise.specs.Run.{Turned, ends}
+use Rattle.promise.specs.Run.{ends}
 use Rattle.run_upload.specs.declared.LoadTurned.{LoadTurned}
-use Rattle.run_upload.specs.Load.{LoadState, loadState, carried, loadTurn}
+use Rattle.run_upload.specs.Load.{loadState, carried, loadTurn}
 use Rattle.run_upload.specs.Answers.{loadStopTold, turnTold}
 use Rattle.maskrom.proofs.Writes.{front-seen, whole-writes}
 use Rattle.run_upload.proofs.Sized.{whole-sized}

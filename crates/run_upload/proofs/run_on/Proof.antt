@@ -5,7 +5,7 @@ use native.Mathlib.Omega.{arith}
 use lib.ListN.{length}
 use denote.Ref.{now}
 use borrow.Author.Needs.{needs}
-use Rattle.promise.specs.Run.{Turned, ends, goes, Ran, runs}
+use Rattle.promise.specs.Run.{ends, goes, Ran, runs}
 use Rattle.promise.proofs.Loop.{On, begins, goes-on, stops, spent}
 use Rattle.run_upload.specs.declared.LoadTurn.{LoadTurn}
 use Rattle.run_upload.specs.Load.{LoadState, loadState, loadTurn}

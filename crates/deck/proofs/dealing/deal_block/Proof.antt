@@ -4,13 +4,9 @@ use mathlib.Core.Path.{ap, sym, subst, _∙_}
 use mathlib.Core.List.{List}
 use borrow.Author.Needs.{needs}
 use denote.Ref.{now}
-use Rattle.promise.specs.Told.{Told}
-use Rattle.deck_block.specs.declared.Request.{Request}
 use Rattle.deck_block.specs.Reading.{cardTold}
 use Rattle.deck_block.proofs.ByKind.{passed-rules}
 use Rattle.deck_block.proofs.Fitting.{asked-fits}
-use Rattle.deck.specs.Deal.{head, DealMeets}
-use Rattle.deck.specs.Dealing.{dealAsked, dealBlock}
 use Rattle.deck.proofs.DealingLaws.{as-dealt, refused-card, asked-card}
 use Rattle.deck.proofs.dealing.deal_block.Statement.{statement}
 use Rattle.deck.proofs.dealing.deal_block.Tie as tie

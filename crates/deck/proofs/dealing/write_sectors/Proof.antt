@@ -8,7 +8,6 @@ use denote.Ref.{now}
 use lib.ListN.{take}
 use Rattle.protocol.specs.Commands.{writeLbaCommand}
 use Rattle.operation_finish.specs.declared.Kind.the-variants as kind
-use Rattle.operation.specs.declared.steps.UsbOperation.{UsbOperation}
 use Rattle.operation.specs.Record.{fresh}
 use Rattle.deck.proofs.VerdictLaws.{operated-deal}
 use Rattle.deck.specs.Dealing.{operate}

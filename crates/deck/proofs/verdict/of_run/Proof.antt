@@ -1,8 +1,6 @@
 -- Every way out but the last has met an end that tells no value, and the last a reply.
 use mathlib.Core.Path.{ap, _∙_}
 use borrow.Author.Needs.{needs}
-use Rattle.operation_finish.specs.declared.FinishAnswer.{FinishAnswer}
-use Rattle.run_turn.specs.declared.Stop.{Stop}
 use Rattle.run_turn.specs.declared.Stop.the-variants.{Finished}
 use Rattle.run_operation.specs.declared.RunAnswer.the-variants.{Ended}
 use Rattle.deck.proofs.VerdictLaws.{run-spent, run-stopped, run-failed, run-replied}

@@ -1,7 +1,6 @@
 -- The verdict tells what the run's answer does, whatever of the run's bytes is kept (`told-kept`).
 use mathlib.Core.Path.{ap, _∙_}
 use borrow.Author.Needs.{needs}
-use Rattle.deck.specs.Verdict.{verdictTold}
 use Rattle.deck.proofs.VerdictLaws.{as-operated}
 use Rattle.deck.proofs.verdict.operated.Statement.{statement}
 use Rattle.deck.proofs.verdict.operated.Tie as tie
