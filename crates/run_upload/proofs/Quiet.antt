@@ -37,7 +37,7 @@ unfolding writeControl controlRules orRefuse signatureBeside innerSignature
 control-quiet s type request value index bytes store =
     let refuses : ℕ → List ℕ → Call = λ number values. record { told = refused number values; next = s; leaves = store } in
     let step = appendStep (s .areas) index bytes store in
-    let done : Call = record { told = step .told; next = withAreas s (step .next); leaves = step .store } in
+    let done : Call = record { told = step .told; next = withAreas s (step .next); leaves = step .leaves } in
     let told : Call → Told Unit = λ c. c .told in
     let other = not (isUpload type request value) in
     either told (not (eqb (length store) (s .«store_length»))) (refuses 65 []) (pick other (refuses 51 (type ∷ request ∷ value ∷ [])) done) refl
