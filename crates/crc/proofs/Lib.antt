@@ -1,4 +1,5 @@
--- `Xor` has what the library's bits lack, `Linear` the linearity of the bit step, `Bytewise` the rule of the table, `Words` eight bytes as one number, `Laws` what crates above cite, `Wrong` programs that are ruled out.
+-- `Xor` has what the library's bits lack, `Linear` the linearity of the bit step, `Bytewise` the rule of the table, `Words` eight bytes as one
+-- number, `Laws` what crates above cite, `Wrong` programs that the contracts rule out.
 pub mod Xor
 pub mod Linear
 pub mod Bytewise

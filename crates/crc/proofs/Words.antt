@@ -1,4 +1,5 @@
--- Eight bytes as one number, without a table: x^64 is x^48 + x^20 + 1, the fourth power of x^16 = x^12 + x^5 + 1, so what stands before 64 bits goes into them by shifts.
+-- Eight bytes as one number, without a table: x^64 is x^48 + x^20 + 1, the fourth power of x^16 = x^12 + x^5 + 1, so what stands before 64 bits goes
+-- into them by shifts.
 use Prim.Native.Nat.{ℕ, zero, suc, _+_, _*_, _/_, _%_, _^_, _<_}
 use mathlib.Core.Path.{_≡_, refl, ap, ap₂, sym, subst, _∙_}
 use mathlib.Core.List.{List, [], _∷_}

@@ -7,7 +7,7 @@ ghost use Rattle.crc.specs.Table.{crcTable};
 
 const START: u16 = 0xFFFF;
 
-// Below this many bytes going byte by byte is as fast (docs/DECISIONS.md).
+// Below this many bytes the table is used, a byte at a time (docs/DECISIONS.md).
 const SHORT: usize = 16;
 
 // Entry i is what eight zero bits make of the register i * 256.

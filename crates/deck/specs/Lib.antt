@@ -1,8 +1,8 @@
--- What a block comes to: `Verdict` is what is told of it, `Deal` the head afterwards and what the functions promise.
+-- What a block of a deck comes to. `Verdict` is what is told of it, `Deal` the head afterwards and what a function promises of it, `Dealing` what
+-- each block does to the head, `Code` what the private functions promise, `Bench` how blocks are counted from one to the next and what a step
+-- promises.
 pub mod Verdict
 pub mod Deal
--- The deck's rules for one block: `Dealing` is what it does to the head. `Code`: what the private functions promise.
 pub mod Dealing
 pub mod Code
--- The deck's rules from block to block: `Bench` is how blocks are counted and what a step promises.
 pub mod Bench

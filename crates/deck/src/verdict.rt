@@ -18,14 +18,14 @@ ghost use Rattle.run_upload.specs.Answers as load;
 ghost use Rattle.deck.specs.Verdict.{numbered, loadTold, verdictTold, kept};
 ghost use Rattle.deck.specs.Deal.{turnedAway, OperatedMeets, LoadedMeets};
 
-// The value, or document 01's number.
+// The value, or the number of a refusal.
 pub enum Verdict {
     Done(UsbReply),
     Refused(u8),
 }
 
 impl Verdict {
-    // The document's number, 0 for a value.
+    // Its number in the rules, 0 for a value.
     pub fn number(self) -> u8
         ensures { λ r. ⌜ ((b : Beside) → r ≡ number (verdictTold self b)) ⌝ }
     {

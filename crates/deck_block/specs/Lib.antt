@@ -1,4 +1,5 @@
--- A block of a deck: `Block` has its fields and its check, `Reading` what it asks for and the refusals in their order.
+-- A block of a deck. `Block` has its fields and its check, `Reading` what it asks for and its refusals in their order, `Refusals` the numbers that a
+-- block itself is refused with.
 pub mod Block
 pub mod Reading
 pub mod Refusals

@@ -30,8 +30,8 @@ resetRequest byte = asksReset (resetOf byte)
 abbrev pub switchRequest : ℕ → Request
 switchRequest byte = request.SwitchStorage (storageOf byte)
 
--- "1 chip info, 2 flash id, 3 flash info, 4 capability, 5 `erase_lba`, 6 `erase_force`, 7 read, 8 write, 9 reset, 10 storage, 11 switch, 12 upload, 13 upload
--- without check"
+-- "1 chip info, 2 flash id, 3 flash info, 4 capability, 5 `erase_lba`, 6 `erase_force`, 7 read, 8 write, 9 reset, 10 storage, 11 switch, 12 upload,
+-- 13 upload without check"
 unfoldable pub requestOf : Fields → Told Request
 requestOf f =
     pick (eqb (f .kind) chipInfoKind) (given request.ChipInfo)

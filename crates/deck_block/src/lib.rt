@@ -42,7 +42,7 @@ pub enum CardAnswer {
 }
 
 impl CardAnswer {
-    // The document's number, 0 where the block asks for something.
+    // Its number in the rules, 0 where the block asks for something.
     pub fn number(self) -> u8
         ensures { λ r. ⌜ r ≡ number (cardTold self) ⌝ }
     {

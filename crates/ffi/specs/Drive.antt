@@ -16,7 +16,7 @@ use Rattle.maskrom.specs.PartWise.{fresh, partStep, closeStep}
 use Rattle.maskrom.specs.Whole.{startStep, wholeStep}
 use Rattle.promise.specs.Run.{Turned, ends, goes, endTold, runs}
 
--- what a drive comes to: 0 or the document's number of its refusal, and the output
+-- what a drive comes to: 0 or the number of its refusal, and the output
 pub record Drove : Type 0 where
   pub number : ℕ
   pub out : List ℕ

@@ -1,9 +1,6 @@
--- What an upload that is driven to its end comes to: `Drive`, over one output and with a budget of calls. `Code`: what the private functions promise.
+-- What the exported functions come to. `Drive` is an upload driven to its end over one output, with a budget of calls, `Code` what the private
+-- functions promise, `Sectors` one sector operation at a fresh stand-in, `Command` a command as one number.
 pub mod Drive
 pub mod Code
--- What one sector operation at a fresh stand-in comes to: `Sectors`.
 pub mod Sectors
--- `Command`: a command as one number.
 pub mod Command
-
--- Nothing beside the definitions of the crates below.

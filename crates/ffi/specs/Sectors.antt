@@ -18,7 +18,7 @@ use Rattle.promise.specs.Run.{endTold, Ran}
 use Rattle.run_turn.specs.Turn.{UsbState, usbState}
 use Rattle.run_operation.specs.Run.{usbRun, wholeBudget}
 
--- 0 or the document's number of the refusal, the flash, and the caller's data
+-- 0 or the number of the refusal, the flash, and the caller's data
 pub record Carried : Type 0 where
   pub number : ℕ
   pub flash : List ℕ

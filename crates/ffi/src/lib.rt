@@ -1,8 +1,10 @@
+// What C and Rust link: the proved functions over numbers and byte slices, each with the contract of the one that it calls. `carry` has sector
+// operations, `drive` uploads to their end, `fields` commands, `uploads` the loops of an upload.
 pub mod carry;
 pub mod drive;
 pub mod fields;
 mod uploads;
-// What C and Rust link: the proved functions over numbers and byte slices, each with the contract of the one that it calls.
+
 ghost use mathlib.Core.Path.{_≡_};
 ghost use lib.ListN.{length};
 ghost use Rattle.promise.specs.Bytes.{front};

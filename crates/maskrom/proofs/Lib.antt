@@ -1,4 +1,5 @@
--- `Lists` has laws on lists, `Cases` one law for each branch of a definition, `Writes` that no call writes past a block, `Unique` that one promise allows one answer, `Wrong` programs that are ruled out.
+-- `Lists` has laws on lists, `Cases` one law for each branch of a definition, `Unique` that one promise allows one answer, `Writes` that no call
+-- writes past a block, `Wrong` programs that the contracts rule out.
 pub mod Lists
 pub mod Cases
 pub mod Unique

@@ -1,4 +1,4 @@
--- Two answers that one promise allows are equal: with the record handed back and the bytes left (`Rattle.maskrom_transfer.proofs.Unique`'s `same`) nothing is open.
+-- Two answers that one promise allows are equal: the record handed back and the bytes left are the promise's, and so nothing is open.
 use Prim.Native.Nat.{ℕ, _<_}
 use mathlib.Core.Path.{_≡_, refl, ap, ap₂, sym, _∙_}
 use mathlib.Core.Bool.{Bool}

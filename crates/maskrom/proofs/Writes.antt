@@ -1,4 +1,5 @@
--- No call writes past the first 4,096 output bytes, at every record, also at those that no fresh start makes; and what a transfer puts into the output is seen there.
+-- No call writes past the first 4,096 output bytes, at every record, also at those that no fresh start makes; and what a transfer puts into the
+-- output is seen there.
 use Prim.Native.Nat.{ℕ, _+_, _-_, _<_, _≤_}
 use mathlib.Core.Path.{_≡_}
 use mathlib.Core.Bool.{Bool, true, false, not}

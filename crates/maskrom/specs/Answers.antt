@@ -1,4 +1,4 @@
--- The document's number and values of each answer.
+-- Number and values of each answer, as the rules have them.
 use Prim.Native.Nat.{ℕ}
 use mathlib.Core.List.{[]}
 use Rattle.promise.specs.Told.{Told, given, refused}

@@ -1,4 +1,4 @@
--- What private helpers of the code make: an answer with the record beside it.
+-- What the private functions make: an answer with the record beside it.
 use Rattle.maskrom.specs.declared.MaskRomOperation.{MaskRomOperation}
 use Rattle.maskrom.specs.declared.WholeUpload.{WholeUpload}
 use Rattle.maskrom.specs.declared.PartStep.{PartStep}

@@ -1,4 +1,5 @@
--- `Answers` has the document's number and values of each answer, `PartWise` and `Whole` the two ways to hand an image over, `Code` what private helpers of the code make.
+-- Uploads. `Answers` has number and values of each answer, `PartWise` and `Whole` the two ways to hand an image over, `Code` what the private
+-- functions make.
 pub mod Answers
 pub mod PartWise
 pub mod Whole

@@ -93,7 +93,7 @@ pub struct WholeStepped {
 }
 
 impl PartStep {
-    // The document's number of the answer, 0 where it gives something.
+    // The answer's number in the rules, 0 where it gives something.
     pub fn number(self) -> u8
         ensures { λ r. ⌜ r ≡ number (partTold self) ⌝ }
     {
@@ -108,7 +108,7 @@ impl PartStep {
 }
 
 impl UploadStep {
-    // The document's number of the answer, 0 where it gives something.
+    // The answer's number in the rules, 0 where it gives something.
     pub fn number(self) -> u8
         ensures { λ r. ⌜ r ≡ number (stepTold self) ⌝ }
     {
@@ -122,7 +122,7 @@ impl UploadStep {
 }
 
 impl UploadStart {
-    // The document's number of the answer, 0 where it gives something.
+    // The answer's number in the rules, 0 where it gives something.
     pub fn number(self) -> u8
         ensures { λ r. ⌜ r ≡ number (startTold self) ⌝ }
     {

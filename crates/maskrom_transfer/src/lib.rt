@@ -33,7 +33,7 @@ pub enum Sent {
 }
 
 impl Sent {
-    // The document's number of the answer, 0 where it gives something.
+    // The answer's number in the rules, 0 where it gives something.
     pub fn number(self) -> u8
         ensures { λ r. ⌜ r ≡ number (sentTold self) ⌝ }
     {

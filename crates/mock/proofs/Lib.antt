@@ -1,6 +1,5 @@
--- `Appended` has an append's answer as the device gives it.
--- For callers: `Keeps` has what a bulk call leaves of the record, `Controls` the areas by their numbers, `Unique` that answers allowed by one contract are equal,
--- `Wrong` programs that the contracts rule out.
+-- `Appended` has an append's answer as the device gives it, `Keeps` what a bulk call leaves of the record, `Controls` the areas by their numbers,
+-- `Unique` that answers allowed by one contract are equal, `Wrong` programs that the contracts rule out.
 pub mod Appended
 pub mod Keeps
 pub mod Controls

@@ -1,4 +1,5 @@
--- Areas by their numbers: a write appends to its own area and leaves every other; two areas share no byte; an area's bytes are what its writes appended.
+-- Areas by their numbers: a write appends to its own area and leaves every other; two areas share no byte; an area's bytes are what its writes
+-- appended.
 use Prim.Native.Nat.{ℕ, _+_, _*_, _≤_, _<_}
 use mathlib.Core.Path.{_≡_, refl, ap, sym, _∙_}
 use mathlib.Core.Logic.{_⊎_, inl, inr, ⊎-elim}

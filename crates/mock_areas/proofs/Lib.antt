@@ -1,5 +1,5 @@
--- `Search` has the laws of a search through a list, `Room` where a slot lies in its store, `Cases` the outcomes of an append,
--- `Holdings` what callers cite: areas by their numbers. `Unique`: answers allowed by one contract are equal. `Wrong`: programs that the contracts rule out.
+-- `Search` has the laws of a search through a list, `Room` where a slot lies in its store, `Cases` the outcomes of an append, `Holdings` what callers
+-- cite: areas by their numbers; `Unique` that answers allowed by one contract are equal, `Wrong` programs that the contracts rule out.
 pub mod Search
 pub mod Room
 pub mod Cases

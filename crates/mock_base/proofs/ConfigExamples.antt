@@ -1,4 +1,4 @@
--- Examples of document 01.
+-- Example P13 of the rules.
 use mathlib.Core.Path.{_≡_, refl}
 use mathlib.Core.List.{_∷_}
 use lib.ListN.{replicate}

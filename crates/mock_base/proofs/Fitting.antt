@@ -1,4 +1,4 @@
--- What a range answer tells, the ranges of document 01's example, and a flash that was taken.
+-- What a range answer tells, the ranges of example P14 of the rules, and a flash that was taken.
 use Prim.Native.Nat.{ℕ, _+_, _*_, _/_, _%_, _≤_}
 use mathlib.Core.Path.{_≡_, refl}
 use mathlib.Core.Bool.{Bool, true, false, not}

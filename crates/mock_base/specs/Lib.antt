@@ -1,5 +1,5 @@
--- The stand-in's answers: `Told` gives number and values for every one, `Flash` says which lengths and ranges a lent flash refuses.
+-- What the stand-in device answers and says. `Told` gives number and values for every answer, `Flash` says which lengths and ranges of a lent flash
+-- are refused, `Config` what a stand-in says of itself.
 pub mod Told
 pub mod Flash
--- What a stand-in device says of itself.
 pub mod Config

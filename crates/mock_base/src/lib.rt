@@ -1,4 +1,5 @@
-// What the stand-in device answers, and the limits of a lent flash that its refusals name.
+// What stands below every part of the stand-in device: `config` is what it says of itself, `error` what it answers, `range` the limits of a lent
+// flash that its refusals name.
 pub mod config;
 pub mod error;
 pub mod range;

@@ -1,4 +1,5 @@
--- A sequence of thin calls is the same sequence by value: it ends in what `callsBy` says, and a run of it through the lent record and one by value agree in every call.
+-- A sequence of thin calls is the same sequence by value: it ends in what `callsBy` says, and a run of it through the lent record and one by value
+-- agree in every call.
 -- Each call's contract fixes all that the next is handed, so both go by induction on the calls.
 use Prim.Native.Nat.{ℕ}
 use mathlib.Core.Path.{_≡_, refl, ap₂, sym, subst, _∙_}

@@ -1,4 +1,5 @@
--- What a by-value step hands back, as a walk meets it: what is known of its answer and of its session, and how its machine value is made of theirs.
+-- What a by-value step hands back, as a walk of the code meets it: what is known of its answer and of its session, and how its machine value is made
+-- of theirs.
 use mathlib.Core.Path.{_≡_, refl, ap, subst}
 use mathlib.Core.List.{[], _∷_}
 use mathlib.Core.Option.{some}

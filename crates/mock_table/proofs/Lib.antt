@@ -1,5 +1,5 @@
--- `Meets` says when an outcome comes to a turn, `Sane` and `Own` what holds of every turn of the table, `Accepted` what a turn was that was not refused;
--- `Unique`: outcomes of one turn are equal. `Wrong`: programs that the contracts rule out.
+-- `Meets` says when an outcome comes to a turn, `Sane` and `Own` what holds of every turn of the table, `Accepted` what a turn was that was not
+-- refused, `Unique` that outcomes of one turn are equal, `Wrong` programs that the contracts rule out.
 pub mod Meets
 pub mod Sane
 pub mod Own

@@ -1,4 +1,4 @@
--- The transaction table of document 01. Each row is a session's transaction and a bulk call.
+-- The transaction table of the rules. Each row is a session's transaction and a bulk call.
 use Prim.Native.Nat.{ℕ, _*_}
 use mathlib.Core.Bool.{not}
 use mathlib.Core.List.{List, [], _∷_}

@@ -1,6 +1,8 @@
--- `Lists` has laws on copied bytes, `Cases` one law for each way that a step or a giving can go, `Laws` what holds of every record, `Rounds` how many steps an
--- operation takes, `Unique` that answers that a contract allows are equal, `Short` what a status of 4 bytes is read as,
--- `Numbered` the number of a finish, `Wrong` programs that the contracts rule out.
+-- One operation: `Lists` has laws on copied bytes, `Cases` one law for each way that a step or a giving can go, `Numbered` the number of a finish,
+-- `Laws` what holds of every record, `Rounds` how many steps an operation takes, `Unique` that answers that a contract allows are equal, `Short` what
+-- a status of 4 bytes is read as, `Wrong` programs that the contracts rule out.
+-- Its start: `StartRounds` says how many steps each operation takes, `StartUnique` that starts that a contract allows are equal, `WrongStarts` has
+-- programs that the contracts rule out.
 pub mod Lists
 pub mod Cases
 pub mod Numbered
@@ -9,8 +11,6 @@ pub mod Rounds
 pub mod Unique
 pub mod Short
 pub mod Wrong
--- `Rounds` says how many steps each operation takes, `Unique` that starts that a contract allows are equal,
--- `Wrong` programs that the contracts rule out.
 pub mod StartRounds
 pub mod StartUnique
 pub mod WrongStarts

@@ -1,8 +1,7 @@
--- One operation. `Record` has its fresh start and how a step changes it, `Step` the four steps, `Give` the giving of received bytes,
--- `Code` what only the private functions need.
+-- One operation. `Record` has its fresh start and what a step or a giving changes of it, `Step` the four steps, `Give` the giving of received bytes,
+-- `Code` what only the private functions need, `Start` the start of an operation over sectors, which can be refused.
 pub mod Record
 pub mod Step
 pub mod Give
 pub mod Code
--- The starts of the operations. `Start` is one over sectors, which can be refused.
 pub mod Start

@@ -25,7 +25,7 @@ pub enum Giving {
 }
 
 impl Giving {
-    // The document's number, 0 where the bytes were taken.
+    // Its number in the rules, 0 where the bytes were taken.
     pub fn number(self) -> u8
         ensures { λ r. ⌜ r ≡ number (givingTold self) ⌝ }
     {

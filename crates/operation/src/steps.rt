@@ -67,7 +67,7 @@ pub enum UsbStep {
 }
 
 impl UsbStep {
-    // The document's number: 0 for what a step asks for and for a reply.
+    // Its number in the rules: 0 for what a step asks for and for a reply.
     pub fn number(self) -> u8
         ensures { λ r. ⌜ ((b : Beside) → r ≡ number (stepTold self b)) ⌝ }
     {

@@ -54,7 +54,7 @@ pub enum FinishAnswer {
 }
 
 impl FinishAnswer {
-    // The document's number: 0 for a reply, 10 to 15.
+    // Its number in the rules: 0 for a reply, 10 to 15.
     pub fn number(self) -> u8
         ensures { λ r. ⌜ ((b : Beside) → r ≡ number (finishTold self b)) ⌝ }
     {

@@ -1,5 +1,5 @@
--- `Order` has byte order read back, `Outcome` and `First` laws of an order of refusals, `Over` and `Copied` laws of a part put over a buffer, `Loop` what a
--- loop over turns keeps, `Resumed` what holds of every run.
+-- `Order` has byte order read back, `Outcome` and `First` laws of an order of refusals, `Over` and `Copied` laws of a part put over a buffer, `Loop`
+-- what a loop over turns keeps, `Resumed` what holds of every run.
 pub mod Order
 pub mod Outcome
 pub mod First

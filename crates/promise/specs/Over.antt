@@ -1,4 +1,4 @@
--- A buffer after bytes were put over a part of it. Every write to a flash and to a store is one; what is read is `field` of `wire`.
+-- A buffer after bytes were put over a part of it. Every write to a flash and to a store is one; what is read is `field` of `Bytes`.
 use Prim.Native.Nat.{ℕ, _+_}
 use mathlib.Core.List.{List, _++_}
 use lib.ListN.{length, take, drop}

@@ -1,4 +1,4 @@
--- An order of refusals: a list of rules in the document's order, of which the first that is broken is the answer.
+-- An order of refusals: a list of rules in their order, of which the first that is broken is the answer.
 use Prim.Native.Nat.{ℕ}
 use mathlib.Core.Bool.{Bool, true, false}
 use mathlib.Core.List.{List, [], _∷_}
@@ -16,7 +16,7 @@ pub record Rule : Type 0 where
   pub number : ℕ
   pub values : List ℕ
 
--- one line of the document's table
+-- one line of the table of refusals
 abbrev pub rule : Bool → ℕ → List ℕ → Rule
 rule b n vs = record { broken = b; number = n; values = vs }
 

@@ -1,4 +1,4 @@
--- Document 01's P1, computed.
+-- Example P1 of the rules, computed.
 use mathlib.Core.Path.{_≡_, refl}
 use mathlib.Core.List.{_∷_}
 use lib.ListN.{replicate}

@@ -1,5 +1,5 @@
--- Laws of the command block: `Reading` by cases of the rule, `Trips` reads back what was written and writes back what was read, `Unique` that answers are equal,
--- `Examples` has document 01's P1, `Wrong` programs that the contracts rule out.
+-- Laws of the command block: `Reading` by cases of the rule, `Trips` reads back what was written and writes back what was read, `Unique` has that
+-- answers are equal, `Examples` example P1 of the rules, `Wrong` programs that the contracts rule out.
 pub mod Reading
 pub mod Trips
 pub mod Unique

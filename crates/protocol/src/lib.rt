@@ -58,7 +58,7 @@ pub enum CommandBlockParseError {
 }
 
 impl CommandBlockParseError {
-    // The document's number.
+    // Its number in the rules.
     pub fn number(self) -> u8
         ensures { λ r. ⌜ r ≡ commandErrorNumber self ⌝ }
     {
@@ -77,7 +77,7 @@ pub enum CommandAnswer {
 }
 
 impl CommandAnswer {
-    // The document's number, 0 where a command was read.
+    // Its number in the rules, 0 where a command was read.
     pub fn number(self) -> u8
         ensures { λ r. ⌜ ((signature : List ℕ) → r ≡ number (commandTold self signature)) ⌝ }
     {

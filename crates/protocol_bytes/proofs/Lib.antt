@@ -1,5 +1,5 @@
--- Laws of short lists of bytes, of lists compared, of a block put into a buffer, of bytes written as they were read, and of a rule that gives; and `Wrong`
--- programs that the contracts rule out.
+-- Laws: `Short` of short lists of bytes, `Same` of lists compared, `Writer` of a block put into a buffer, `Rewritten` of bytes written as they were
+-- read, `Given` of a rule that gives; `Wrong` has programs that the contracts rule out.
 pub mod Short
 pub mod Same
 pub mod Writer

@@ -11,7 +11,7 @@ pub enum Written {
 }
 
 impl Written {
-    // The document's number, 0 where the block was written.
+    // Its number in the rules, 0 where the block was written.
     pub fn number(self) -> u8
         ensures { λ r. ⌜ r ≡ number (writtenTold self) ⌝ }
     {

@@ -18,7 +18,7 @@ pub enum DirectionRead {
 }
 
 impl DirectionRead {
-    // The document's number, 0 where the byte is a direction.
+    // Its number in the rules, 0 where the byte is a direction.
     pub fn number(self) -> u8
         ensures { λ r. ⌜ r ≡ told.number (directionReadTold self) ⌝ }
     {
@@ -88,7 +88,7 @@ pub enum CodeRead {
 }
 
 impl CodeRead {
-    // The document's number, 0 where the byte is a code.
+    // Its number in the rules, 0 where the byte is a code.
     pub fn number(self) -> u8
         ensures { λ r. ⌜ r ≡ told.number (codeReadTold self) ⌝ }
     {
@@ -183,7 +183,7 @@ pub enum StatusRead {
 }
 
 impl StatusRead {
-    // The document's number, 0 where the byte is a status.
+    // Its number in the rules, 0 where the byte is a status.
     pub fn number(self) -> u8
         ensures { λ r. ⌜ r ≡ told.number (statusReadTold self) ⌝ }
     {
@@ -231,7 +231,7 @@ pub enum ResetRead {
 }
 
 impl ResetRead {
-    // The document's number, 0 where the byte is an opcode.
+    // Its number in the rules, 0 where the byte is an opcode.
     pub fn number(self) -> u8
         ensures { λ r. ⌜ r ≡ told.number (resetReadTold self) ⌝ }
     {

@@ -1,4 +1,4 @@
--- Document 01's P9 to P12, computed.
+-- Examples P9 to P12 of the rules, computed.
 use mathlib.Core.Path.{_≡_, refl}
 use mathlib.Core.List.{[], _∷_}
 use Rattle.promise.specs.Told.{given, refused}

@@ -1,4 +1,4 @@
--- The flag places of `Capability`: a byte of the reply and the bit in it. proofs/Masks.antt says what the mask asks: the bit at that place is set.
+-- The flag places of `Capability`: a byte of the reply and the bit in it. A mask of that one bit asks that it is set (`Masks` in the proofs).
 use Prim.Native.Nat.{ℕ}
 use mathlib.Core.Bool.{Bool}
 use mathlib.Core.List.{List}

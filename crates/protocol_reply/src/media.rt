@@ -12,7 +12,7 @@ pub enum StorageAnswer {
 }
 
 impl StorageAnswer {
-    // The document's number, 0 where there is an index.
+    // Its number in the rules, 0 where there is an index.
     pub fn number(self) -> u8
         ensures { λ r. ⌜ r ≡ number (storageTold self) ⌝ }
     {

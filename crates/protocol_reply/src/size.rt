@@ -19,7 +19,7 @@ pub enum SectorAnswer {
 }
 
 impl SectorAnswer {
-    // The document's number, 0 where there is a count.
+    // Its number in the rules, 0 where there is a count.
     pub fn number(self) -> u8
         ensures { λ r. ⌜ r ≡ number (sectorTold self) ⌝ }
     {

@@ -16,7 +16,7 @@ pub enum UsbOperationError {
 }
 
 impl UsbOperationError {
-    // The document's number.
+    // Its number in the rules.
     pub fn number(self) -> u8
         ensures { λ r. ⌜ r ≡ failureNumber self ⌝ }
     {

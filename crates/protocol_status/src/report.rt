@@ -38,7 +38,7 @@ pub enum CommandStatusParseError {
 }
 
 impl CommandStatusParseError {
-    // The document's number.
+    // Its number in the rules.
     pub fn number(self) -> u8
         ensures { λ r. ⌜ ((signature : List ℕ) → r ≡ number (statusErrorTold self signature)) ⌝ }
     {
@@ -56,7 +56,7 @@ pub enum StatusAnswer {
 }
 
 impl StatusAnswer {
-    // The document's number, 0 where a status was read.
+    // Its number in the rules, 0 where a status was read.
     pub fn number(self) -> u8
         ensures { λ r. ⌜ ((signature : List ℕ) → r ≡ number (statusTold self signature)) ⌝ }
     {

@@ -1,6 +1,6 @@
 // What a line is told, by value: a number with its values, and which bytes stand behind them. All of it is printed in one place.
 
-// No number of document 01: the line is not of the language, or about a thing that is not there.
+// No number of the rules: the line is not of the language, or about a thing that is not there.
 pub const OUTSIDE: u64 = 1000;
 
 pub struct Told {

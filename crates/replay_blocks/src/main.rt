@@ -1,4 +1,5 @@
-// Answers the kinds `blocks`, `status` and `replies` of the language of cases (differential/LANGUAGE.md): a line in, a line out. No call of theirs is about a thing that stays.
+// Answers the kinds `blocks`, `status` and `replies` of the language of cases (differential/LANGUAGE.md): a line in, a line out. No call of theirs is
+// about a thing that stays.
 mod blocks;
 mod commands;
 mod numbers;

@@ -33,7 +33,7 @@ pub enum RunAnswer {
 }
 
 impl RunAnswer {
-    // The document's number, 0 for the operation's value.
+    // Its number in the rules, 0 for the operation's value.
     pub fn number(self) -> u8
         ensures { λ r. ⌜ ((b : Beside) → r ≡ number (endTold (answerEnd self b))) ⌝ }
     {
@@ -44,8 +44,8 @@ impl RunAnswer {
     }
 }
 
-// `beside` has what no enum can hold: a reply's bytes, or the signature of 11 or 56. `operation` and `device` are as the last step left them, `steps` counts
-// the run's own step calls.
+// `beside` has what no enum can hold: a reply's bytes, or the signature of 11 or 56. `operation` and `device` are as the last step left them, `steps`
+// counts the run's own step calls.
 pub struct UsbRun {
     pub answer: RunAnswer,
     pub beside: Beside,

@@ -38,7 +38,7 @@ pub enum Stop {
 }
 
 impl Stop {
-    // The document's number, 0 for the operation's value.
+    // Its number in the rules, 0 for the operation's value.
     pub fn number(self) -> u8
         ensures { λ r. ⌜ ((b : Beside) → r ≡ number (stopTold self b)) ⌝ }
     {

@@ -30,7 +30,7 @@ pub enum LoadStop {
 }
 
 impl LoadStop {
-    // The document's number, 0 for the finish.
+    // Its number in the rules, 0 for the finish.
     pub fn number(self) -> u8
         ensures { λ r. ⌜ r ≡ number (loadStopTold self) ⌝ }
     {
@@ -62,7 +62,7 @@ pub enum LoadAnswer {
 }
 
 impl LoadAnswer {
-    // The document's number, 0 for the finish.
+    // Its number in the rules, 0 for the finish.
     pub fn number(self) -> u8
         ensures { λ r. ⌜ r ≡ number (endTold (answerEnd self)) ⌝ }
     {

@@ -25,9 +25,9 @@ use Rattle.theorems.proofs.StepsToFinish.{Sends, enough, needed}
 use Rattle.theorems.proofs.WholeSends.{image-sends}
 use Rattle.theorems.proofs.PartsSend.{left, parts-end}
 
--- DEMAND 3. An image of at most 4,294,967,295 bytes, cut into parts in any way, empty ones too: handed over in order to a fresh upload, with an output of a block
--- at least and re-handing what was not taken, then closed and stepped to the finish. No call is refused, the driving ends, and the transfers are those of the
--- upload's bytes.
+-- DEMAND 3. An image of at most 4,294,967,295 bytes, cut into parts in any way, empty ones too: handed over in order to a fresh upload, with an
+-- output of a block at least and re-handing what was not taken, then closed and stepped to the finish. No call is refused, the driving ends, and the
+-- transfers are those of the upload's bytes.
 pub any-cut : (area : ℕ) (checked : Bool) (image : List ℕ) (parts : List (List ℕ)) (out : List ℕ)
     → flatten parts ≡ image → length image ≤ longest → blockSize ≤ length out
     → driveParts area checked parts out ≡ ended (transfersOf area checked image)

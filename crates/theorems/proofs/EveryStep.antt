@@ -1,4 +1,5 @@
--- What holds at every record, also at those that no fresh start makes: the finish repeats for ever, and a refused start leaves a record at which its image differs.
+-- What holds at every record, also at those that no fresh start makes: the finish repeats for ever, and a refused start leaves a record at which its
+-- image differs.
 use Prim.Native.Nat.{ℕ, _<_, _≤_}
 use mathlib.Core.Path.{_≡_, refl, ap, ap₂, sym, _∙_}
 use mathlib.Core.Bool.{Bool}

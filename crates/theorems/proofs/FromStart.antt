@@ -1,4 +1,5 @@
--- An operation from its start, at a device with no transaction: its command is taken as the block that it is, and the table's turn for it decides how the run goes on.
+-- An operation from its start, at a device with no transaction: its command is taken as the block that it is, and the table's turn for it decides how
+-- the run goes on.
 use Prim.Native.Nat.{ℕ, _≤_}
 use mathlib.Core.Path.{_≡_, refl, ap, sym, _∙_}
 use mathlib.Core.List.{List}

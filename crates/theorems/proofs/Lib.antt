@@ -1,4 +1,14 @@
--- An image handed over to its end, whole or in parts.
+-- An image handed over to its end: `CutIntoTransfers` has how its bytes are cut, `BehindTheImage` what follows it, `StepsToFinish` how a record is
+-- stepped to its finish, `ClosingSends`, `WholeSends` and `PartsSend` what a record has still to send, `AnyCut` that any cut gives the same
+-- transfers, `UploadExamples` examples P3 to P8 of the rules, `EveryStep` what holds at every record.
+-- A run of an upload: `UploadTransfers` has its control writes, `UploadSteps` how many steps it takes, `UploadRefusals` which refusals it can meet,
+-- `TwoWritesAreOne` that two writes to an area are one, `UploadLands` what the upload leaves, `UploadKeeps` what it keeps.
+-- A run of an operation: `OperationSteps` has how many steps it takes, `SectorsLand` what it leaves of flash and data, `CallsByTurn` that a bulk call
+-- is the table's turn, `CallsThatEnd` which calls end the transaction, `NoTransactionLeft` that none is left after a run, `BetweenRuns` what holds
+-- between one run and the next, `FromStatus`, `FromStart` and `FromData` how a run goes on from there, `OperationEnds` what each operation ends in,
+-- `OperationTold` what any may be told.
+-- A deck: `BetweenBlocks` has what holds between one block and the next, `DeckRefusals` the refusals that the bench can meet, `BlockNumbers` each
+-- block's number and tag.
 pub mod CutIntoTransfers
 pub mod BehindTheImage
 pub mod StepsToFinish
@@ -8,14 +18,12 @@ pub mod PartsSend
 pub mod AnyCut
 pub mod UploadExamples
 pub mod EveryStep
--- A run of an upload: its transfers, its steps, what it meets, leaves and keeps.
 pub mod UploadTransfers
 pub mod UploadSteps
 pub mod UploadRefusals
 pub mod TwoWritesAreOne
 pub mod UploadLands
 pub mod UploadKeeps
--- A run of an operation: how many steps it takes, what it leaves, what it ends in.
 pub mod OperationSteps
 pub mod SectorsLand
 pub mod CallsByTurn
@@ -27,7 +35,6 @@ pub mod FromStart
 pub mod FromData
 pub mod OperationEnds
 pub mod OperationTold
--- A deck from block to block.
 pub mod BetweenBlocks
 pub mod DeckRefusals
 pub mod BlockNumbers

@@ -1,4 +1,5 @@
--- After one whole operation the device has no transaction: a refused bulk call ends it, and the finish comes only behind a status that was read, which ends it too.
+-- After one whole operation the device has no transaction: a refused bulk call ends it, and the finish comes only behind a status that was read,
+-- which ends it too.
 use Prim.Native.Nat.{ℕ, zero, suc, _/_, _≤_}
 use mathlib.Core.Path.{_≡_, refl, ap, ap₂, sym, subst, _∙_}
 use mathlib.Core.List.{List, []}

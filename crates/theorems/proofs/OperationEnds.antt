@@ -1,4 +1,5 @@
--- What each operation ends in from its start, at a device with no transaction that is lent a flash of whole sectors and its store: a reply, 53, 54 or 57.
+-- What each operation ends in from its start, at a device with no transaction that is lent a flash of whole sectors and its store: a reply, 53, 54 or
+-- 57.
 use Prim.Native.Nat.{ℕ, suc, _*_, _/_, _<_, _≤_, _^_, min}
 use mathlib.Core.Path.{_≡_, refl, ap, sym, _∙_}
 use mathlib.Core.Bool.{true, false}

@@ -1,4 +1,5 @@
--- Two writes to one area of which neither is refused are one write of the bytes of both: the second goes to the slot that the first took, behind its bytes.
+-- Two writes to one area of which neither is refused are one write of the bytes of both: the second goes to the slot that the first took, behind its
+-- bytes.
 use Prim.Native.Nat.{ℕ, _+_, _*_, _<_, _≤_}
 use mathlib.Core.Path.{_≡_, refl, ap, ap₂, sym, _∙_}
 use mathlib.Core.Bool.{true}

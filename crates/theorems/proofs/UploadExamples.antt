@@ -1,4 +1,4 @@
--- The document's P3 to P8, and the two longest images.
+-- Examples P3 to P8 of the rules, and the two longest images.
 use Prim.Native.Nat.{ℕ, _+_, _/_, _%_, _≤_}
 use mathlib.Core.Path.{_≡_, refl, ap, ap₂, _∙_}
 use mathlib.Core.Bool.{Bool, true, false}

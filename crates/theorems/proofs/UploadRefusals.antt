@@ -1,5 +1,5 @@
--- Which refusals an upload can meet from its start: its control writes are of the one kind that the device takes, and every one leaves the store as long as it
--- was, so 58 and 59 alone.
+-- Which refusals an upload can meet from its start: its control writes are of the one kind that the device takes, and every one leaves the store as
+-- long as it was, so 58 and 59 alone.
 use Prim.Native.Nat.{ℕ, _+_, _*_, _/_, _<_, _≤_}
 use mathlib.Core.Path.{_≡_, refl, sym, _∙_}
 use mathlib.Core.Bool.{Bool}

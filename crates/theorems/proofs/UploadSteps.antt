@@ -1,4 +1,5 @@
--- How many steps an upload takes from its start: one for each transfer and one for the finish, where nothing is refused; and so its whole budget is always enough.
+-- How many steps an upload takes from its start: one for each transfer and one for the finish, where nothing is refused; and so its whole budget is
+-- always enough.
 use Prim.Native.Nat.{ℕ, _+_, _/_, _≤_, _<_}
 use mathlib.Core.Path.{_≡_, ap, _∙_}
 use mathlib.Core.Bool.{Bool}

@@ -27,7 +27,7 @@ pub record Counts (k : ℕ) (bench : Bench) : Type 0 where
   pub number : bench .number ≡ k % 2 ^ 64
   pub tag : bench .tag ≡ k % 2 ^ 32
 
--- of what a block asks for, and of the block itself
+-- the numbers that what a block asks for is refused with; then, with these, those of the block itself
 abbrev pub doneRefusals : List ℕ
 doneRefusals = 53 ∷ 54 ∷ 57 ∷ 58 ∷ 59 ∷ []
 

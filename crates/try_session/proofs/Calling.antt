@@ -1,7 +1,9 @@
--- One thin call by a caller whose record stands in a local and whose flash is a `&mut [u8]`: what the call is lent, and what the caller has again once it has returned.
+-- One thin call by a caller whose record stands in a local and whose flash is a `&mut [u8]`: what the call is lent, and what the caller has again
+-- once it has returned.
 --     lends-write, after-write     a call of `write_bulk`: the flash is lent again as `&mut`
 --     lends-read, after-read       a call of `read_bulk`: the flash is lent again as `&`, and the buffer goes to the call for good
--- The record and the flash are each lent for a lifetime that is made for the call and ended after it (`Lending.antt`). All that is known of a call is that it meets its contract.
+-- The record and the flash are each lent for a lifetime that is made for the call and ended after it (`Lending`). All that is known of a call is that
+-- it meets its contract.
 -- Assumes `Given`.
 use mathlib.Core.Path.{_≡_}
 use Prim.Native.Nat.{ℕ}

@@ -1,4 +1,5 @@
--- What a caller lends to a thin call for the time of the call, and gets back: its own record, which stands in a local, and its flash, a `&mut [u8]` that is lent again, as `&mut` or as `&`.
+-- What a caller lends to a thin call for the time of the call, and gets back: its own record, which stands in a local, and its flash, a `&mut [u8]`
+-- that is lent again, as `&mut` or as `&`.
 --     lends-record     the record h in the local at l  ⊢ ⇛ ∃ γ. own (the `&κ mut Session` ((l, 0), γ, h)) ∗ the lender's part
 --     record-back      [†κ] ∗ the lender's part ∗ res γ h  ⊢ ⇛ (the record h in the local at l)
 --     lends-again      own (the `&κ mut [u8]` ((b, o), γ, ys)) ∗ [κ]_q  ⊢ ⇛ ∃ δ. own (the `&κ′ mut [u8]` ((b, o), δ, ys)) ∗ LentAgain δ

@@ -1,5 +1,5 @@
-// One session of the stand-in, lent from call to call: a write, a read, an erase, a reset and a refusal. A line for each call and one for the record after
-// each command; README.md beside says how the expected lines were worked out.
+// One session of the stand-in, lent from call to call: a write, a read, an erase, a reset and a refusal. A line for each call and one for the record
+// after each command; README.md beside says how the expected lines were worked out.
 use libc::STDOUT_FILENO;
 use mock_base::config::MockDeviceConfig;
 use mock_base::error::MockAnswer;

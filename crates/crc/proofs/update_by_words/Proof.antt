@@ -1,4 +1,5 @@
--- Eight bytes after eight go into 64 bits (`next-word`): what their register makes of the bytes that are left stays what the start makes of all of them.
+-- Eight bytes after eight go into 64 bits (`next-word`): what their register makes of the bytes that are left stays what the start makes of all of
+-- them.
 use Prim.Native.Nat.{ℕ, _+_, _-_, _*_, _/_, _%_, _^_, _≤_, _<_}
 use mathlib.Core.Path.{_≡_, refl, ap, sym, _∙_}
 use mathlib.Core.List.{List}

@@ -1,4 +1,5 @@
--- Eight bytes are 64 bits, read as one number (`eight-bytes`). Each read has three or four needs: it is inside, its byte fits, and what was read so far runs over at no sum and no product, each byte being below 256.
+-- Eight bytes are 64 bits, read as one number (`eight-bytes`). Each read has three or four needs: it is inside, its byte fits, and what was read so
+-- far runs over at no sum and no product, each byte being below 256.
 use Prim.Native.Nat.{ℕ}
 use mathlib.Core.Path.{sym, ap, _∙_}
 use native.Mathlib.Omega.{arith}

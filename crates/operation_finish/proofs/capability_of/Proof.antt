@@ -1,4 +1,4 @@
--- `finish::capability_of` meets its contract: the first bytes of the reply stand beside blanks. Assumes nothing.
+-- The first bytes of the reply stand beside blanks.
 use borrow.Author.Needs.{needs}
 use Rattle.operation_finish.proofs.capability_of.Statement.{statement}
 use Rattle.operation_finish.proofs.capability_of.Tie as tie

@@ -1,4 +1,4 @@
--- `finish::chip_info_of` meets its contract: the bytes stand beside blanks. Assumes nothing.
+-- The bytes stand beside blanks.
 use borrow.Author.Needs.{needs}
 use Rattle.operation_finish.proofs.chip_info_of.Statement.{statement}
 use Rattle.operation_finish.proofs.chip_info_of.Tie as tie

@@ -1,4 +1,4 @@
--- `finish::failed` meets its contract: the error stands beside blanks. Assumes nothing.
+-- The error stands beside blanks.
 use borrow.Author.Needs.{needs}
 use Rattle.operation_finish.proofs.failed.Statement.{statement}
 use Rattle.operation_finish.proofs.failed.Tie as tie

@@ -1,4 +1,4 @@
--- `finish::finish_of` meets its contract: each refusal is the first broken rule, in the order of the definition. Assumes nothing.
+-- Each refusal is the first broken rule, in the order of the definition.
 use mathlib.Core.Path.{_≡_, ap, sym, subst, _∙_}
 use borrow.Author.Needs.{needs}
 use Rattle.promise.specs.Told.{Told, given, andThen}

@@ -1,4 +1,4 @@
--- `finish::first_of` meets its contract: as many bytes are copied as `out` has, so nothing of it is left. Assumes nothing.
+-- As many bytes are copied as `out` has, so nothing of it is left.
 use mathlib.Core.Path.{_≡_, sym}
 use native.Mathlib.Omega.{arith}
 use lib.ListN.{length, take}

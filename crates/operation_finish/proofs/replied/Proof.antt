@@ -1,4 +1,4 @@
--- `finish::replied` meets its contract: the reply stands beside blanks. Assumes nothing.
+-- The reply stands beside blanks.
 use borrow.Author.Needs.{needs}
 use Rattle.operation_finish.proofs.replied.Statement.{statement}
 use Rattle.operation_finish.proofs.replied.Tie as tie

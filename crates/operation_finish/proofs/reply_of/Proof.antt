@@ -1,4 +1,4 @@
--- `finish::reply_of` meets its contract: each kind has its own function, and the in-band bytes are all 16 of a chip info. Assumes nothing.
+-- Each kind has its own function, and the in-band bytes are all 16 of a chip info.
 use mathlib.Core.Path.{_≡_, refl}
 use lib.ListN.{length}
 use lib.Seq.{take-all}

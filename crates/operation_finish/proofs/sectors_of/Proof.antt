@@ -1,4 +1,4 @@
--- `finish::sectors_of` meets its contract: 14 where the residue is above the length, else what was moved. Assumes nothing.
+-- 14 where the residue is above the length, else what was moved.
 use mathlib.Core.Path.{refl}
 use borrow.Author.Needs.{needs}
 use Rattle.operation_finish.specs.Reply.{finishTold, replyGiven, besideOf, besideReply}

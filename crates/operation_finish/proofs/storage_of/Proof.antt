@@ -1,4 +1,4 @@
--- `finish::storage_of` meets its contract: what the first 4 bytes are read as is passed on. Assumes nothing.
+-- What the first 4 bytes are read as is passed on.
 use mathlib.Core.Path.{refl}
 use borrow.Author.Needs.{needs}
 use Rattle.promise.specs.Told.{andThen}

@@ -1,4 +1,4 @@
--- `finish::unread` meets its contract: an error becomes its refusal at a finish, and there is no status. Assumes nothing.
+-- An error becomes its refusal at a finish, and there is no status.
 use borrow.Author.Needs.{needs}
 use Rattle.protocol_status.specs.StatusMeets.{statusTold}
 use Rattle.operation_finish.specs.Code.{IsRefused}

@@ -1,4 +1,4 @@
--- `protocol::block_of` meets its contract: each field is read off the bytes that stand there. Assumes nothing.
+-- Each field is read off the bytes that stand there.
 use Prim.Native.Nat.{_+_, _≤_}
 use mathlib.Core.Path.{refl}
 use native.Mathlib.Omega.{arith}

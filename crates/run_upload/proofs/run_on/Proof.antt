@@ -1,4 +1,5 @@
--- The loop keeps that the run from here is the rest of the run from the start (`On`), and the store's length; the measure is what is left of the budget.
+-- The loop keeps that the run from here is the rest of the run from the start (`On`), and the store's length; the measure is what is left of the
+-- budget.
 use Prim.Native.Nat.{ℕ, _-_, _+_, _<_}
 use mathlib.Core.Path.{_≡_, refl, ap, sym, _∙_}
 use native.Mathlib.Omega.{arith}

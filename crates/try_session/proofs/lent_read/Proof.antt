@@ -1,4 +1,5 @@
--- `lent_read` meets its contract: a walk of its MIR. The record, which stands in a local, and the flash are lent to one `read_bulk`, and both are back after it (`Calling`); the buffer goes to the call for good.
+-- A walk of its MIR. The record, which stands in a local, and the flash are lent to one `read_bulk`, and both are back after it (`Calling`); the
+-- buffer goes to the call for good.
 -- All that the proof knows of the thin call is that it meets its contract.
 use mathlib.Core.Path.{_≡_, refl, ap}
 use Prim.Native.Nat.{ℕ}

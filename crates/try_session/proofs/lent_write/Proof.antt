@@ -1,4 +1,4 @@
--- `lent_write` meets its contract: a walk of its MIR. The record, which stands in a local, and the flash are lent to one `write_bulk`, and both are back after it (`Calling`).
+-- A walk of its MIR. The record, which stands in a local, and the flash are lent to one `write_bulk`, and both are back after it (`Calling`).
 -- All that the proof knows of the thin call is that it meets its contract.
 use mathlib.Core.Path.{_≡_, refl, ap}
 use Prim.Native.Nat.{ℕ}

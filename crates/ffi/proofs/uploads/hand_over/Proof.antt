@@ -1,4 +1,5 @@
--- The loop keeps that the drive from here is the rest of the drive from the start (`Handling`), that what is left is a rest of the image, and the output's length; the measure is what is left of the budget.
+-- The loop keeps that the drive from here is the rest of the drive from the start (`Handling`), that what is left is a rest of the image, and the
+-- output's length; the measure is what is left of the budget.
 use Prim.Native.Nat.{ℕ, _+_, _-_, _<_, _≤_}
 use mathlib.Core.Path.{_≡_, refl, ap, sym, subst, _∙_}
 use mathlib.Core.List.{List}

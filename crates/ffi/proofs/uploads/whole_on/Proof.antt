@@ -1,4 +1,5 @@
--- The loop keeps that the drive from here is the rest of the drive from the start (`Driving`), and the output's length; the measure is what is left of the budget.
+-- The loop keeps that the drive from here is the rest of the drive from the start (`Driving`), and the output's length; the measure is what is left
+-- of the budget.
 use Prim.Native.Nat.{_-_, _<_}
 use mathlib.Core.Path.{_≡_, refl, sym, _∙_}
 use native.Mathlib.Omega.{arith}

@@ -1,4 +1,4 @@
--- Each test is a rule in the document's order. Past them as many bytes are taken as the block has room for, which are the definition's
+-- Each test is a rule in the order of the rules. Past them as many bytes are taken as the block has room for, which are the definition's
 -- (`take-min`), and where they fill it the output begins with the block (`filled-block`).
 use Prim.Native.Nat.{ℕ, _+_, _-_, _<_}
 use mathlib.Core.Path.{_≡_, refl, ap, ap₂, sym, _∙_}

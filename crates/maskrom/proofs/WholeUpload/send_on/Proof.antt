@@ -1,4 +1,5 @@
--- The block begins with the chunk and the register covers it, so the step is what `send` tells there: told on as a step of this record, or its refusal passed on.
+-- The block begins with the chunk and the register covers it, so the step is what `send` tells there: told on as a step of this record, or its
+-- refusal passed on.
 use Prim.Native.Nat.{ℕ}
 use mathlib.Core.Path.{_≡_, ap, ap₂, subst, _∙_}
 use mathlib.Core.List.{List, []}

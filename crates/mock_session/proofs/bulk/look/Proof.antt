@@ -1,4 +1,4 @@
--- `session::bulk::look` meets its contract: a walk of its MIR. The borrow is looked into, the record there is copied whole, and the borrow is shut again.
+-- A walk of its MIR. The borrow is looked into, the record there is copied whole, and the borrow is shut again.
 use mathlib.Core.Path.{refl}
 use Prim.Native.Nat.{ℕ}
 use mathlib.Core.List.{[], _∷_, List}

@@ -1,4 +1,5 @@
--- `session::bulk::start` meets its contract: a walk of its MIR. The borrow is opened; the record behind it is copied and passed to `start_step`; what that returns is stored behind the reference, and the borrow is closed at it.
+-- A walk of its MIR. The borrow is opened; the record behind it is copied and passed to `start_step`; what that returns is stored behind the
+-- reference, and the borrow is closed at it.
 -- All that the proof knows of `start_step` is that it meets its contract. It looks into no field and no variant.
 use mathlib.Core.Path.{refl}
 use Prim.Native.Nat.{ℕ}

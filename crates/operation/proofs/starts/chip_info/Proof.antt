@@ -1,4 +1,4 @@
--- `operation::chip_info` meets its contract: a fresh operation of its kind with its command. Assumes nothing.
+-- A fresh operation of its kind with its command.
 use borrow.Author.Needs.{needs}
 use Rattle.operation.proofs.starts.chip_info.Statement.{statement}
 use Rattle.operation.proofs.starts.chip_info.Tie as tie

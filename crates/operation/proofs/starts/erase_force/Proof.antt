@@ -1,4 +1,4 @@
--- `operation::erase_force` meets its contract: a fresh operation of its kind with its command. Assumes nothing.
+-- A fresh operation of its kind with its command.
 use borrow.Author.Needs.{needs}
 use Rattle.operation.proofs.starts.erase_force.Statement.{statement}
 use Rattle.operation.proofs.starts.erase_force.Tie as tie

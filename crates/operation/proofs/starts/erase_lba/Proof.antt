@@ -1,4 +1,4 @@
--- `operation::erase_lba` meets its contract: a fresh operation of its kind with its command. Assumes nothing.
+-- A fresh operation of its kind with its command.
 use borrow.Author.Needs.{needs}
 use Rattle.operation.proofs.starts.erase_lba.Statement.{statement}
 use Rattle.operation.proofs.starts.erase_lba.Tie as tie

@@ -1,4 +1,4 @@
--- `operation::flash_info` meets its contract: a fresh operation of its kind with its command. Assumes nothing.
+-- A fresh operation of its kind with its command.
 use borrow.Author.Needs.{needs}
 use Rattle.operation.proofs.starts.flash_info.Statement.{statement}
 use Rattle.operation.proofs.starts.flash_info.Tie as tie

@@ -1,4 +1,4 @@
--- `operation::reset_device` meets its contract: a fresh operation of its kind with its command. Assumes nothing.
+-- A fresh operation of its kind with its command.
 use borrow.Author.Needs.{needs}
 use Rattle.operation.proofs.starts.reset_device.Statement.{statement}
 use Rattle.operation.proofs.starts.reset_device.Tie as tie

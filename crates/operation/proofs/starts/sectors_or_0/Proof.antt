@@ -1,4 +1,4 @@
--- `operation::sectors_or_0` meets its contract: a count is its number, a refusal is 0. Assumes nothing.
+-- A count is its number, a refusal is 0.
 use Prim.Native.Nat.{ℕ}
 use mathlib.Core.Path.{_≡_, refl}
 use mathlib.Core.List.{[], _∷_}

@@ -1,4 +1,4 @@
--- `operation::switch_storage` meets its contract: a fresh operation of its kind with its command. Assumes nothing.
+-- A fresh operation of its kind with its command.
 use borrow.Author.Needs.{needs}
 use Rattle.operation.proofs.starts.switch_storage.Statement.{statement}
 use Rattle.operation.proofs.starts.switch_storage.Tie as tie

@@ -1,4 +1,4 @@
--- `operation::write_lba` meets its contract: the count or the refusal is passed on, and the command is for that many sectors, or none. Assumes nothing.
+-- The count or the refusal is passed on, and the command is for that many sectors, or none.
 use mathlib.Core.Path.{refl, ap, _∙_}
 use borrow.Author.Needs.{needs}
 use Rattle.operation.specs.Start.{sectorsOr0}

@@ -1,4 +1,4 @@
--- `steps::after_command` meets its contract: by the test on the length. Assumes nothing.
+-- By the test on the length.
 use borrow.Author.Tests.{eq-eqb, ne-eqb}
 use Rattle.operation.specs.Record.{afterCommand}
 use Rattle.operation.proofs.steps.after_command.Statement.{statement}

@@ -1,4 +1,4 @@
--- `steps::first_13` meets its contract: 13 bytes are copied, so nothing of the array is left. Assumes nothing.
+-- 13 bytes are copied, so nothing of the array is left.
 use mathlib.Core.Path.{_≡_, sym}
 use native.Mathlib.Omega.{arith}
 use lib.ListN.{length, take, replicate}

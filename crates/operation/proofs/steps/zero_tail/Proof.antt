@@ -1,4 +1,4 @@
--- `steps::zero_tail` meets its contract: seven zeros are copied to the front of what stands from byte 24 on. Assumes nothing.
+-- Seven zeros are copied to the front of what stands from byte 24 on.
 use lib.ListN.{replicate}
 use borrow.Author.Needs.{needs}
 use Rattle.operation.proofs.Lists.{put-mid}

@@ -1,4 +1,4 @@
--- `protocol::CommandBlock::from_bytes` meets its contract: each way out is a case of the rule. Assumes nothing.
+-- Each way out is a case of the rule.
 use Prim.Native.Nat.{_+_, _≤_}
 use mathlib.Core.Path.{_≡_, refl, ap, sym, _∙_}
 use mathlib.Core.Bool.{true, false}

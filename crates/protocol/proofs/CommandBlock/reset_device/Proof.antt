@@ -1,4 +1,4 @@
--- `protocol::CommandBlock::reset_device` meets its contract: the opcode is the value's number. Assumes nothing.
+-- The opcode is the value's number.
 use mathlib.Core.Path.{ap, _∙_}
 use borrow.Author.Needs.{needs}
 use Rattle.protocol_codes.specs.declared.CommandCode.the-variants.{DeviceReset}

@@ -1,4 +1,4 @@
--- `block::order::u16_from_le_bytes` meets its contract: the array is its 2 bytes, and joining them is what the definition computes. Assumes nothing.
+-- The array is its 2 bytes, and joining them is what the definition computes.
 use mathlib.Core.Path.{_≡_, ap}
 use native.Mathlib.Omega.{arith}
 use borrow.Author.Needs.{needs}

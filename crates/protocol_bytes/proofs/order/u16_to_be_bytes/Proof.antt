@@ -1,4 +1,4 @@
--- `block::order::u16_to_be_bytes` meets its contract: the bytes with the lowest first, the other way round. Assumes nothing.
+-- The bytes with the lowest first, the other way round.
 use mathlib.Core.Path.{refl}
 use borrow.Author.Needs.{needs}
 use Rattle.promise.specs.Bytes.{lowFirst, highFirst}

@@ -1,4 +1,4 @@
--- `block::order::u16_to_le_bytes` meets its contract: its bytes are what the definition computes. Assumes nothing.
+-- Its bytes are what the definition computes.
 use mathlib.Core.Path.{refl}
 use borrow.Author.Needs.{needs}
 use Rattle.promise.specs.Bytes.{lowFirst}

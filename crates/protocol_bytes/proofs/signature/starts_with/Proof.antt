@@ -1,4 +1,4 @@
--- `block::signature::starts_with` meets its contract: a byte that differs shows that the lists differ, and where three are equal the fourth decides.
+-- A byte that differs shows that the lists differ, and where three are equal the fourth decides.
 use Prim.Native.Nat.{ℕ, _≤_, _<_}
 use mathlib.Core.Path.{_≡_, ap, ap₂, sym, _∙_}
 use mathlib.Core.List.{List}

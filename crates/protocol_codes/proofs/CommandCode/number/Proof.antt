@@ -1,4 +1,4 @@
--- `codes::CommandCode::number` meets its contract: each arm gives the number that the definition has for its code. Assumes nothing.
+-- Each arm gives the number that the definition has for its code.
 use mathlib.Core.Path.{ap, sym}
 use borrow.Author.Needs.{needs}
 use Rattle.protocol_codes.specs.Numbers.{codeNumber}

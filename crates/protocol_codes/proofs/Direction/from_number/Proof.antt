@@ -1,4 +1,4 @@
--- `codes::Direction::from_number` meets its contract: each arm is the value whose number it names, and the last is no listed number. Assumes nothing.
+-- Each arm is the value whose number it names, and the last is no listed number.
 use mathlib.Core.Path.{refl, sym}
 use mathlib.Core.List.{[], _∷_}
 use Rattle.promise.specs.Told.{given, refused}

@@ -1,4 +1,4 @@
--- `codes::StorageIndex::from_number` meets its contract: each arm is the value whose number it names, and the last is no listed number. Assumes nothing.
+-- Each arm is the value whose number it names, and the last is no listed number.
 use mathlib.Core.Path.{refl, sym}
 use Rattle.protocol_codes.specs.declared.StorageIndex.the-variants.{Unknown}
 use Rattle.protocol_codes.specs.Numbers.{storageNumber, storageIndexes}

@@ -1,4 +1,4 @@
--- `reply::media::storage_index` meets its contract: as many places are set as the word has ones, and one alone is counted by the trailing zeros.
+-- As many places are set as the word has ones, and one alone is counted by the trailing zeros.
 use Prim.Native.Nat.{_<_, _^_}
 use mathlib.Core.Path.{ap, sym, _∙_}
 use native.Mathlib.Nat.{zero-add}

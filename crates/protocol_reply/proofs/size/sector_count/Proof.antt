@@ -1,4 +1,4 @@
--- `reply::size::sector_count` meets its contract: each way out is a rule broken, or none. Assumes nothing.
+-- Each way out is a rule broken, or none.
 use Prim.Native.Nat.{_/_, _%_}
 use mathlib.Core.Path.{refl}
 use borrow.Author.Needs.{needs}

@@ -1,4 +1,4 @@
--- `status::report::report_of` meets its contract: each field is read off the bytes that stand there. Assumes nothing.
+-- Each field is read off the bytes that stand there.
 use Prim.Native.Nat.{_+_, _≤_}
 use native.Mathlib.Omega.{arith}
 use borrow.Author.Needs.{needs}

@@ -1,4 +1,4 @@
--- Bytes that are taken are 0, and a refusal has the document's number.
+-- Bytes that are taken are 0, and a refusal has its number in the rules.
 use mathlib.Core.Path.{ap, sym, _∙_}
 use borrow.Author.Needs.{needs}
 use Rattle.promise.specs.Told.{number}

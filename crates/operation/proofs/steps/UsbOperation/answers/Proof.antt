@@ -1,4 +1,4 @@
--- `steps::UsbOperation::answers` meets its contract: zeros stand beside the answer. Assumes nothing.
+-- Zeros stand beside the answer.
 use borrow.Author.Needs.{needs}
 use Rattle.operation.proofs.steps.UsbOperation.answers.Statement.{statement}
 use Rattle.operation.proofs.steps.UsbOperation.answers.Tie as tie

@@ -1,4 +1,4 @@
--- `steps::UsbOperation::command_step` meets its contract: the writer's refusal is passed on, else the seven bytes behind its 24 are zeroed. Assumes nothing.
+-- The writer's refusal is passed on, else the seven bytes behind its 24 are zeroed.
 use Prim.Native.Nat.{_≤_}
 use mathlib.Core.Path.{_≡_, refl, ap, _∙_}
 use native.Mathlib.Omega.{arith}

@@ -1,4 +1,4 @@
--- `steps::UsbOperation::finish_step` meets its contract: the finish's answer is passed on. Assumes nothing.
+-- The finish's answer is passed on.
 use borrow.Author.Needs.{needs}
 use Rattle.operation.specs.Step.{finishStep}
 use Rattle.operation.proofs.Cases.{finish-meets}

@@ -1,4 +1,4 @@
--- `steps::UsbOperation::give` meets its contract: by what was asked for. Assumes nothing.
+-- By what was asked for.
 use mathlib.Core.Path.{refl}
 use lib.ListN.{length}
 use denote.Ref.{now}

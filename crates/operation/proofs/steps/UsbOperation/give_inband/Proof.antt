@@ -1,4 +1,4 @@
--- `steps::UsbOperation::give_inband` meets its contract: more than was asked is refused, the rest goes over the in-band bytes. Assumes nothing.
+-- More than was asked is refused, the rest goes over the in-band bytes.
 use Prim.Native.Nat.{_<_, _≤_}
 use mathlib.Core.Path.{_≡_, refl}
 use native.Mathlib.Omega.{arith}

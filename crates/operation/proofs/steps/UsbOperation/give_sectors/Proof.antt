@@ -1,4 +1,4 @@
--- `steps::UsbOperation::give_sectors` meets its contract: 21, then 27, then the bytes stand at the front of the caller's data. Assumes nothing.
+-- 21, then 27, then the bytes stand at the front of the caller's data.
 use mathlib.Core.Path.{refl}
 use native.Mathlib.Omega.{arith}
 use lib.ListN.{length}

@@ -1,4 +1,4 @@
--- `steps::UsbOperation::give_status` meets its contract: more than 13 bytes are refused, the rest goes over the command's first 13. Assumes nothing.
+-- More than 13 bytes are refused, the rest goes over the command's first 13.
 use Prim.Native.Nat.{_≤_}
 use mathlib.Core.Path.{_≡_, refl}
 use native.Mathlib.Omega.{arith}

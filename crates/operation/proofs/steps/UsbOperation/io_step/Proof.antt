@@ -1,4 +1,4 @@
--- `steps::UsbOperation::io_step` meets its contract: by where the data is. Assumes nothing.
+-- By where the data is.
 use mathlib.Core.Path.{refl, sym, _∙_}
 use borrow.Author.Needs.{needs}
 use Rattle.operation.specs.Step.{ioStep, stepTold, besideAt, besideAsks}

@@ -1,4 +1,4 @@
--- `steps::UsbOperation::sector_step` meets its contract: by the test on the lent length. Assumes nothing.
+-- By the test on the lent length.
 use borrow.Author.Needs.{needs}
 use borrow.Author.Tests.{lt-ltb, le-ltb}
 use Rattle.operation.specs.Record.{transferLength}

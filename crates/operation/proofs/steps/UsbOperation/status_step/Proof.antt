@@ -1,4 +1,4 @@
--- `steps::UsbOperation::status_step` meets its contract: a plain answer. Assumes nothing.
+-- A plain answer.
 use mathlib.Core.Path.{refl}
 use borrow.Author.Needs.{needs}
 use Rattle.operation.specs.Step.{statusStep, stepTold, besideAt, besideAsks}

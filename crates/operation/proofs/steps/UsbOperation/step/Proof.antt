@@ -1,4 +1,4 @@
--- `steps::UsbOperation::step` meets its contract: by where the operation stands. Assumes nothing.
+-- By where the operation stands.
 use denote.Ref.{now}
 use borrow.Author.Needs.{needs}
 use Rattle.operation.specs.Step.{stepOf}

@@ -1,4 +1,4 @@
--- What a step asks for is 0, a finish has its own number, and a refusal the document's.
+-- What a step asks for is 0, a finish has its own number, and a refusal the one of the rules.
 use mathlib.Core.Path.{ap, sym, _∙_}
 use borrow.Author.Needs.{needs}
 use Rattle.promise.specs.Told.{number}

@@ -1,4 +1,4 @@
--- `reply::info::FlashInfo::sectors` meets its contract: the bytes it joins are those of the field. Assumes nothing.
+-- The bytes it joins are those of the field.
 use Prim.Native.Nat.{_+_, _≤_}
 use mathlib.Core.Path.{_≡_, ap, sym, _∙_}
 use native.Mathlib.Omega.{arith}

@@ -1,4 +1,4 @@
--- `reply::info::FlashInfo::size` meets its contract: as many bytes as its sectors have. Assumes nothing.
+-- As many bytes as its sectors have.
 use Prim.Native.Nat.{ℕ, _*_}
 use mathlib.Core.Path.{ap}
 use borrow.Author.Needs.{needs}

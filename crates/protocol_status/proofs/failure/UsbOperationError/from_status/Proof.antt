@@ -1,4 +1,4 @@
--- `status::failure::UsbOperationError::from_status` meets its contract: each arm is the number that 6, 5 or 7 turns into. Assumes nothing.
+-- Each arm is the number that 6, 5 or 7 turns into.
 use mathlib.Core.Path.{ap, sym}
 use borrow.Author.Needs.{needs}
 use Rattle.protocol_status.specs.declared.report.CommandStatusParseError.{CommandStatusParseError}

@@ -1,4 +1,4 @@
--- `status::report::CommandStatus::bytes` meets its contract: each group of bytes is what its field is written as. Assumes nothing.
+-- Each group of bytes is what its field is written as.
 use mathlib.Core.Path.{refl}
 use borrow.Author.Needs.{needs}
 use Rattle.promise.specs.Bytes.{lowFirst, highFirst}

@@ -1,4 +1,4 @@
--- `status::report::CommandStatus::to_bytes` meets its contract: a short buffer is left, and a longer one has the block at its front. Assumes nothing.
+-- A short buffer is left, and a longer one has the block at its front.
 use borrow.Author.Needs.{needs}
 use denote.Ref.{now}
 use Rattle.protocol_bytes.proofs.Writer.{writes-nothing, writes-block}
