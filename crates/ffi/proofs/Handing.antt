@@ -22,9 +22,9 @@ use Rattle.maskrom.specs.Answers.{partTold, longest, tooLong, closedAlready, co
 use Rattle.maskrom.specs.PartWise.{waiting, held, closed, holding, takes, partStep}
 use Rattle.promise.specs.Run.{ends, goes, endTold, Ran, runs}
 use Rattle.promise.proofs.Loop.{On, goes-on, stops, spent}
-use Rattle.ffi.specs.declared.uploads.PartPace.{PartPace}
-use Rattle.ffi.specs.declared.uploads.PartPace.the-variants.{Took, Refused}
-use Rattle.ffi.specs.declared.uploads.HandedOver.{HandedOver}
+use Rattle.ffi.specs.declared.driving.PartPace.{PartPace}
+use Rattle.ffi.specs.declared.driving.PartPace.the-variants.{Took, Refused}
+use Rattle.ffi.specs.declared.driving.HandedOver.{HandedOver}
 use Rattle.ffi.specs.Drive.{Handing, handing, onPart, partTurn}
 use Rattle.ffi.specs.Code.{HandsOver, partPace}
 

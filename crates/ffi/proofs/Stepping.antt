@@ -14,7 +14,7 @@ use Rattle.maskrom.proofs.UploadStep.{the-type}
 use Rattle.maskrom.specs.Answers.{Asks, writes, finish, stepTold}
 use Rattle.promise.specs.Run.{ends, goes, endTold, Ran, runs}
 use Rattle.promise.proofs.Loop.{On, goes-on, stops, spent}
-use Rattle.ffi.specs.declared.uploads.Pace.the-variants.{Goes, Ends}
+use Rattle.ffi.specs.declared.driving.Pace.the-variants.{Goes, Ends}
 use Rattle.ffi.specs.Drive.{DriveMeets, Stepping, stepping, onward, stepTurn, stepDrive}
 use Rattle.ffi.specs.Code.{paceOf}
 

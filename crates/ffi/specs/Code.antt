@@ -5,11 +5,11 @@ use mathlib.Core.List.{List}
 use Rattle.promise.specs.Told.{Told, given, refused, number}
 use Rattle.maskrom.specs.Answers.{Handed, took, filled, Asks, writes, finish}
 use Rattle.promise.specs.Run.{endTold, Ran}
-use Rattle.ffi.specs.declared.uploads.Pace.{Pace}
-use Rattle.ffi.specs.declared.uploads.Pace.the-variants.{Goes, Ends}
-use Rattle.ffi.specs.declared.uploads.PartPace.{PartPace}
-use Rattle.ffi.specs.declared.uploads.PartPace.the-variants.{Took, Refused}
-use Rattle.ffi.specs.declared.uploads.HandedOver.{HandedOver}
+use Rattle.ffi.specs.declared.driving.Pace.{Pace}
+use Rattle.ffi.specs.declared.driving.Pace.the-variants.{Goes, Ends}
+use Rattle.ffi.specs.declared.driving.PartPace.{PartPace}
+use Rattle.ffi.specs.declared.driving.PartPace.the-variants.{Took, Refused}
+use Rattle.ffi.specs.declared.driving.HandedOver.{HandedOver}
 use Rattle.ffi.specs.Drive.{Handing}
 
 -- a function that answers r and leaves the output so, once the image is handed over or a part refused

@@ -1,9 +1,9 @@
-// What C and Rust link: the proved functions over numbers and byte slices, each with the contract of the one that it calls. `carry` has sector
-// operations, `drive` uploads to their end, `fields` commands, `uploads` the loops of an upload.
-pub mod carry;
-pub mod drive;
-pub mod fields;
-mod uploads;
+// What C and Rust link: the proved functions over numbers and byte slices, each with the contract of the one that it calls. `commands` has
+// commands as numbers, `sectors` sector operations, `uploads` uploads to their end, `driving` the loops of an upload.
+pub mod commands;
+mod driving;
+pub mod sectors;
+pub mod uploads;
 
 ghost use mathlib.Core.Path.{_≡_};
 ghost use lib.ListN.{length};
@@ -43,7 +43,7 @@ pub extern "C" fn otterarch_upload_whole(
 ) -> u8
     ensures { λ r. ⌜ DriveMeets r (now (out .exit)) (wholeDrive area checked (now (image .entry)) (now (out .entry)) budget) ⌝ }
 {
-    crate::drive::whole(area, checked, image, out, budget)
+    crate::uploads::whole(area, checked, image, out, budget)
 }
 
 // A whole upload in parts of `size` bytes, handed over by `budget` calls at most.
@@ -58,7 +58,7 @@ pub extern "C" fn otterarch_upload_parts(
 ) -> u8
     ensures { λ r. ⌜ DriveMeets r (now (out .exit)) (partDrive area checked size (now (image .entry)) (now (out .entry)) budget) ⌝ }
 {
-    crate::drive::parts(area, checked, size, image, out, budget)
+    crate::uploads::parts(area, checked, size, image, out, budget)
 }
 
 // The command that reads `sectors` from sector `first`, into the first 24 bytes of `out`: 0 or 20.
@@ -66,7 +66,7 @@ pub extern "C" fn otterarch_upload_parts(
 pub extern "C" fn otterarch_command_write(tag: u32, first: u32, sectors: u16, out: &mut [u8]) -> u8
     ensures { λ r. ⌜ (r ≡ number (writeCommand (readLbaCommand tag first sectors) (length (now (out .entry))) .told)) × (now (out .exit) ≡ front (writeCommand (readLbaCommand tag first sectors) (length (now (out .entry))) .sent) (now (out .entry))) ⌝ }
 {
-    crate::fields::write_command(tag, first, sectors, out)
+    crate::commands::write_command(tag, first, sectors, out)
 }
 
 // Code, address and count of a command as one number, or the number of the refusal above them.
@@ -74,7 +74,7 @@ pub extern "C" fn otterarch_command_write(tag: u32, first: u32, sectors: u16, ou
 pub extern "C" fn otterarch_command_read(bytes: &[u8]) -> u64
     ensures { λ r. ⌜ r ≡ commandNumber (readCommand (now (bytes .entry))) ⌝ }
 {
-    crate::fields::read_command(bytes)
+    crate::commands::read_command(bytes)
 }
 
 // Sectors of the flash from `first` on into all of `data`: 0 or the number of the refusal.
@@ -82,7 +82,7 @@ pub extern "C" fn otterarch_command_read(bytes: &[u8]) -> u64
 pub extern "C" fn otterarch_read_sectors(first: u32, flash: &mut [u8], data: &mut [u8]) -> u8
     ensures { λ r. ⌜ SectorsMeet r (now (flash .exit)) (now («data» .exit)) (readSectors first (now (flash .entry)) (now («data» .entry))) ⌝ }
 {
-    crate::carry::read_sectors(first, flash, data)
+    crate::sectors::read_sectors(first, flash, data)
 }
 
 // All of `data` to the flash from sector `first` on: 0 or the number of the refusal.
@@ -90,5 +90,5 @@ pub extern "C" fn otterarch_read_sectors(first: u32, flash: &mut [u8], data: &mu
 pub extern "C" fn otterarch_write_sectors(first: u32, flash: &mut [u8], data: &[u8]) -> u8
     ensures { λ r. ⌜ SectorsMeet r (now (flash .exit)) (now («data» .entry)) (writeSectors first (now (flash .entry)) (now («data» .entry))) ⌝ }
 {
-    crate::carry::write_sectors(first, flash, data)
+    crate::sectors::write_sectors(first, flash, data)
 }

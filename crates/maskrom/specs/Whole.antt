@@ -6,7 +6,7 @@ use mathlib.Core.List.{List, [], _∷_}
 use lib.ListN.{length, take, drop}
 use lib.Dec.{eqb, ltb}
 use Rattle.promise.specs.Told.{Told, given, andThen}
-use Rattle.promise.specs.Rules.{rule, unless, lentRule, roomRule}
+use Rattle.promise.specs.Rules.{Rule, rule, unless, lentRule, roomRule}
 use Rattle.crc.specs.Check.{start}
 use Rattle.maskrom_transfer.specs.declared.MaskRomSteps.{MaskRomSteps}
 use Rattle.maskrom_transfer.specs.declared.MaskRomSteps.the-variants.{Writing, Check, Dummy, Done}
@@ -67,9 +67,13 @@ sendsOn u w room =
     given
     (does (asks (u .steps) (u .area) (d .says .size)) (d .sends) (sentOn u (length w) (d .says .crc) (d .says .steps))))
 
+-- "a whole image not of its starting length", by its length
+abbrev pub imageRule : WholeUpload → ℕ → Rule
+imageRule u image = lentRule (not (eqb image (u .length)))
+
 -- "Each step, finish included: .. whole 20, then 27"
 unfoldable pub wholeStep : WholeUpload → List ℕ → ℕ → Told (Does Asks WholeUpload)
 wholeStep u image room =
     unless
-    (roomRule room blockSize ∷ lentRule (not (eqb (length image) (u .length))) ∷ [])
+    (roomRule room blockSize ∷ imageRule u (length image) ∷ [])
     (sendsOn u (chunk u image) room)

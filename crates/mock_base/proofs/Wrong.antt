@@ -9,7 +9,6 @@ use Rattle.mock_base.specs.Told.{errorNumber, resultTold}
 use Rattle.mock_base.specs.Flash.{flashRules, flashSectors, sizeTold, sizeResult, sizeAnswer, fitsIn, rangeIn, rangeTold}
 use Rattle.mock_base.specs.declared.error.MockTransportError.{MockTransportError}
 use Rattle.mock_base.specs.declared.error.MockTransportError.the-variants.{UnexpectedRead, UnexpectedWrite, StoreLength, TooManySectors}
-use Rattle.mock_base.specs.declared.error.MockResult.{MockResult}
 use Rattle.mock_base.specs.declared.error.MockResult.the-variants as result
 use Rattle.mock_base.specs.declared.error.MockAnswer.{MockAnswer}
 use Rattle.mock_base.specs.declared.range.FlashRange.{FlashRange}

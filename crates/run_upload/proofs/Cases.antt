@@ -15,7 +15,7 @@ use Rattle.mock_base.specs.declared.error.MockResult.{MockResult}
 use Rattle.mock_base.specs.declared.error.MockResult.the-variants as result
 use Rattle.mock.specs.declared.device.MockStep.{MockStep}
 use Rattle.mock.specs.Device.{Call, MockMeets, writeControl}
-use Rattle.promise.specs.Run.{ends, goes}
+use Rattle.promise.specs.Run.{ends}
 use Rattle.run_upload.specs.Load.{LoadState, loadState, onward, carried, carries, loadTurn}
 use Rattle.run_upload.specs.Answers.{loadStopTold, turnTold, TurnMeets}
 use Rattle.run_upload.specs.Code.{afterResult, afterControl}

@@ -1,16 +1,14 @@
 -- A run of a whole upload against the stand-in: what it checks, then its turns.
 use Prim.Native.Nat.{ℕ, _+_, _/_}
-use mathlib.Core.Bool.{not}
 use mathlib.Core.List.{List, [], _∷_, _++_}
 use lib.ListN.{length}
-use lib.Dec.{eqb}
 use Rattle.promise.specs.Told.{Told, given, refused}
-use Rattle.promise.specs.Rules.{Rule, orRefuse, lentRule}
+use Rattle.promise.specs.Rules.{Rule, orRefuse}
 use Rattle.promise.specs.Does.{said, sent, after}
 use Rattle.maskrom_transfer.specs.Moves.{blockSize}
 use Rattle.maskrom.specs.declared.WholeUpload.{WholeUpload}
 use Rattle.maskrom.specs.Answers.{Asks, writes, finish}
-use Rattle.maskrom.specs.Whole.{wholeStep}
+use Rattle.maskrom.specs.Whole.{wholeStep, imageRule}
 use Rattle.mock_base.specs.Flash.{flashRules}
 use Rattle.mock.specs.declared.device.MockState.{MockState}
 use Rattle.mock.specs.Device.{Call, writeControl, storeRule}
@@ -50,7 +48,7 @@ loadTurn image s =
 unfoldable pub loadRules : LoadState → ℕ → ℕ → List Rule
 loadRules s flash image =
     flashRules flash
-    ++ (storeRule (s .device) (length (s .store)) ∷ lentRule (not (eqb image (s .upload .length))) ∷ [])
+    ++ (storeRule (s .device) (length (s .store)) ∷ imageRule (s .upload) image ∷ [])
 
 -- a refusal before the first step takes none and changes nothing
 abbrev pub unstarted : LoadState → ℕ → List ℕ → Ran Unit LoadState

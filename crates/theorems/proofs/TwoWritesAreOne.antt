@@ -85,7 +85,7 @@ as-one areas p number xs ys store inside =
     let slots = set-set (areas .slots) i (holds (p .used + length xs)) (holds (p .used + length xs + length ys)) ∙ ap (λ (n : ℕ). set (areas .slots) i (holds n)) count in
     let behind : i * slotSize (length kept) + (p .used + length xs) ≡ at + length xs =
     ap (λ (n : ℕ). i * slotSize n + (p .used + length xs)) (length-over at xs store inside) ∙ sym (add-assoc (i * slotSize (length store)) (p .used) (length xs)) in
-    ap₂ (λ (l : List Area) (after : List ℕ). record { told = given tt; next = record { slots = l }; store = after }) slots
+    ap₂ (λ (l : List Area) (after : List ℕ). record { told = given tt; next = record { slots = l }; leaves = after }) slots
     (ap (λ (n : ℕ). over n ys kept) behind ∙ over-join at xs ys store inside)
 
 pub joined : (areas : Areas) (number : ℕ) (xs ys store : List ℕ) → length (areas .slots) ≡ slotCount

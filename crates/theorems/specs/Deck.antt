@@ -3,7 +3,7 @@ use Prim.Native.Nat.{ℕ, _+_, _%_, _^_}
 use mathlib.Core.List.{List, [], _∷_, _++_}
 use lib.ListN.{length}
 use Rattle.theorems.specs.Standing.{Standing, Sized}
-use Rattle.deck.specs.Deal.{Head, head}
+use Rattle.deck.specs.Deal.{Head}
 use Rattle.deck.specs.Dealing.{dealBlock}
 use mathlib.Core.Path.{_≡_}
 use Rattle.deck.specs.declared.bench.Bench.{Bench}

@@ -3,9 +3,7 @@ use Prim.Native.Nat.{ℕ}
 use mathlib.Core.Bool.{Bool}
 use mathlib.Core.List.{List}
 use lib.ListN.{length}
-use Rattle.maskrom.specs.Answers.{control}
 use Rattle.maskrom.specs.Whole.{freshWhole}
-use Rattle.theorems.specs.PartDriver.{transfer}
 use Rattle.mock.specs.declared.device.MockState.{MockState}
 use Rattle.mock.specs.Device.{Call, writeControl}
 use Rattle.promise.specs.Run.{Ran}
@@ -17,7 +15,6 @@ use Rattle.operation.specs.Record.{fresh}
 use Rattle.run_turn.specs.Turn.{UsbState, usbState}
 use Rattle.run_operation.specs.Run.{usbRun, wholeBudget}
 use Rattle.promise.specs.Told.{given}
-use Rattle.theorems.proofs.TwoWritesAreOne.{accepted}
 
 -- the control write of a transfer: "type 0x40, request 0xc, value 0, index the area"
 abbrev pub written : MockState → ℕ → List ℕ → List ℕ → Call

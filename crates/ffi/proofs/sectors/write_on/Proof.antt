@@ -1,0 +1,21 @@
+-- As `read_on`, with data that is only lent.
+use mathlib.Core.List.{[]}
+use denote.Ref.{now}
+use borrow.Author.Needs.{needs}
+use Rattle.run_turn.specs.Turn.{lentTo}
+use Rattle.ffi.proofs.SectorsTold.{ran-at}
+use Rattle.ffi.proofs.sectors.write_on.Statement.{statement}
+use Rattle.ffi.proofs.sectors.write_on.Tie as tie
+
+returns : tie.Need-returns
+returns c =
+    let a = c .before .before .before .before .before .before .before .before .before .before .args in
+    let d = c .before .before .before .before .before .before .before .fresh-device in
+    let run = c .before .before .before .before .run-whole-write in
+    let v = c .before .operated in
+    let bytes = lentTo (a .operation .kind) (now (a .«data»)) [] in
+    ran-at (a .operation) (d .result) (now (a .flash)) bytes (d .ensures) (run .result) (v .result) (c .number .result) (run .last .1 .1 .0) bytes (run .ensures) (v .ensures)
+    (c .number .ensures (v .result .beside))
+
+pub write-on-spec : {M : Type 1} → statement M
+write-on-spec = tie.close (tie.spec (λ c κs. search needs) (λ c. search needs) (λ c κs. search needs) (λ c κs. search needs) (λ c κs. search needs) (λ c. search needs) returns)
