@@ -1,7 +1,6 @@
 // "Blocks": command and status blocks, read and written.
 use crate::commands::Built;
 use crate::commands::command;
-use crate::replies;
 use protocol::CommandAnswer;
 use protocol::CommandBlock;
 use protocol::CommandParse;
@@ -32,6 +31,7 @@ use replay_lines::names::CWR;
 use replay_lines::names::SMP;
 use replay_lines::names::SRD;
 use replay_lines::names::STO;
+use replay_replies::replies;
 
 fn fields(block: CommandBlock) -> Told {
     nine(

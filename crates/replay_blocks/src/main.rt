@@ -2,8 +2,6 @@
 // about a thing that stays.
 mod blocks;
 mod commands;
-mod numbers;
-mod replies;
 
 use replay_answers::out::flush;
 use replay_answers::out::line_with_room;
@@ -34,6 +32,8 @@ use replay_lines::names::SRD;
 use replay_lines::names::STA;
 use replay_lines::names::STO;
 use replay_lines::names::SWR;
+use replay_replies::numbers;
+use replay_replies::replies;
 
 fn answer(asked: Asked, bytes: &[u8], room: &mut [u8]) -> Answer {
     let call = asked.call;

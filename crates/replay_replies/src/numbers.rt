@@ -50,7 +50,7 @@ fn reset(n: u8) -> Told {
     }
 }
 
-pub(crate) fn read(name: u64, n: u8) -> Told {
+pub fn read(name: u64, n: u8) -> Told {
     match name {
         DIR => direction(n),
         COD => code(n),

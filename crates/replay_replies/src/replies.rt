@@ -94,7 +94,7 @@ fn length(name: u64) -> usize {
 }
 
 // `chp`, `fid`, `fin`, `cap`
-pub(crate) fn read(name: u64, bytes: &[u8]) -> Answer {
+pub fn read(name: u64, bytes: &[u8]) -> Answer {
     if bytes.len() != length(name) {
         return plain(outside());
     }
@@ -108,7 +108,7 @@ pub(crate) fn read(name: u64, bytes: &[u8]) -> Answer {
 }
 
 // `sto`
-pub(crate) fn media(bytes: &[u8]) -> Told {
+pub fn media(bytes: &[u8]) -> Told {
     if bytes.len() != 4 {
         return outside();
     }
@@ -125,7 +125,7 @@ pub(crate) fn media(bytes: &[u8]) -> Told {
 }
 
 // `sec`
-pub(crate) fn sectors(length: usize) -> Told {
+pub fn sectors(length: usize) -> Told {
     let answer = sector_count(length);
     match answer {
         SectorAnswer::Count(count) => one(0, count.0 as u64),
