@@ -10,6 +10,7 @@ that it is made of changed. To compile a program over another copy of crates/, c
 import hashlib
 import os
 import re
+import shlex
 import shutil
 import stat
 import subprocess
@@ -194,7 +195,8 @@ def keeping_toolchain(tools, work, keep):
     linker = os.path.join(own, "bin", "ld.lld")
     os.remove(linker)
     with open(linker, "w", encoding="utf-8") as file:
-        file.write(f'#!/bin/sh\n"{tools}/bin/ld.lld" "$@" || exit\ncp program "{keep}/program.$(ls "{keep}" | wc -l)"\n')
+        real, kept = shlex.quote(os.path.join(tools, "bin", "ld.lld")), shlex.quote(keep)
+        file.write(f'#!/bin/sh\n{real} "$@" || exit\ncp program {kept}/program.$(ls {kept} | wc -l)\n')
     os.chmod(linker, stat.S_IRWXU)
     return own
 
@@ -269,7 +271,7 @@ def main():
             path = os.path.join(ROOT, "target", "bin", name)
         else:
             path = compiled(name, say=say)
-    except Failed as why:
+    except (Failed, OSError) as why:
         sys.exit(f"built: {why}")
     except KeyboardInterrupt:
         sys.exit(130)

@@ -14,8 +14,8 @@ use Rattle.promise.proofs.Outcome.{by-test, on-test}
 use Rattle.deck_block.specs.declared.Fields.{Fields}
 use Rattle.deck_block.specs.declared.Request.{Request}
 use Rattle.deck_block.specs.declared.Request.the-variants as request
-use Rattle.deck_block.specs.Block.{blockLength, fieldsOf, isKind, tooLarge}
-use Rattle.deck_block.specs.Reading.{resetRequest, switchRequest, requestOf, readCard}
+use Rattle.deck_block.specs.Block.{blockLength, fieldsOf, isKind}
+use Rattle.deck_block.specs.Reading.{resetRequest, switchRequest, requestOf, readCard, Passed}
 
 -- a kind from `i` up that is not `i` is further up
 further : (i k : ℕ) → i ≤ k → eqb k i ≡ false → suc i ≤ k
@@ -53,13 +53,6 @@ by-kind P f h chip id info capability erase force read write reset storage switc
     by-test P (eqb k 11) (λ e. switch) (λ e11. let l11 = further 11 k l10 e11 in
     by-test P (eqb k 12) (λ e. upload (eqb-true k 12 e)) (λ e12. let l12 = further 12 k l11 e12 in
     unchecked (let top = bounds .1 in omega arith)))))))))))))
-
--- the rules that were met on the way
-pub record Passed (block : List ℕ) (r : Request) : Type 0 where
-  pub long : blockLength ≤ length block
-  pub kind : isKind (fieldsOf block .kind) ≡ true
-  pub small : tooLarge (fieldsOf block) ≡ false
-  pub asks : requestOf (fieldsOf block) ≡ given r
 
 no-rule : (told : Told Request) → told ≡ unless [] told
 unfolding orRefuse

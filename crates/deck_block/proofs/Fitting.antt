@@ -1,7 +1,6 @@
 -- What a block asks for is within the bounds of 43, and within those of its fields.
-use Prim.Native.Nat.{ℕ, _+_, _^_, _≤_, _<_}
-use mathlib.Core.Path.{_≡_, ap, subst, _∙_}
-use mathlib.Core.Bool.{false}
+use Prim.Native.Nat.{ℕ, _^_, _≤_, _<_}
+use mathlib.Core.Path.{ap, subst}
 use mathlib.Core.List.{List}
 use native.Mathlib.Omega.{arith}
 use borrow.Author.Tests.{ltb-false}
@@ -12,10 +11,9 @@ use Rattle.protocol_bytes.proofs.Short.{field-elements}
 use Rattle.protocol_codes.specs.declared.ResetOpcode.{ResetOpcode}
 use Rattle.protocol_codes.specs.Reading.{resetOf}
 use Rattle.deck_block.specs.declared.Request.{Request}
-use Rattle.deck_block.specs.declared.Request.the-variants as request
 use Rattle.deck_block.specs.Block.{fieldsOf, tooLarge}
-use Rattle.deck_block.specs.Reading.{asksReset, resetRequest, Fits}
-use Rattle.deck_block.proofs.ByKind.{by-kind, Passed}
+use Rattle.deck_block.specs.Reading.{asksReset, resetRequest, Fits, Named, Passed}
+use Rattle.deck_block.proofs.ByKind.{by-kind}
 
 abbrev FitsTold : Told Request → Type 0
 FitsTold (given r) = Fits r
@@ -37,22 +35,6 @@ asked-fits block r p =
     (reset-fits (resetOf (f .byte))) tt tt
     (λ e. ltb-false 8192 (f .word) (rw e at (p .small)))
     (λ e. ltb-false 8192 (f .word) (rw e at (p .small))))
-
--- the first sector and the count of an operation are what a command can name
-abbrev pub Named : Request → Type 0
-Named request.ChipInfo = Unit
-Named request.FlashId = Unit
-Named request.FlashInfo = Unit
-Named request.Capability = Unit
-Named (request.EraseLba first count) = (first < 256 ^ 4) × (count < 256 ^ 2)
-Named (request.EraseForce first count) = (first < 256 ^ 4) × (count < 256 ^ 2)
-Named (request.ReadLba first count) = (first < 256 ^ 4) × (count < 256 ^ 2)
-Named (request.WriteLba first count fill) = (first < 256 ^ 4) × (count < 256 ^ 2)
-Named (request.ResetDevice opcode) = Unit
-Named request.Storage = Unit
-Named (request.SwitchStorage index) = Unit
-Named (request.WriteArea area n fill) = Unit
-Named (request.WriteAreaNoCrc area n fill) = Unit
 
 abbrev NamedTold : Told Request → Type 0
 NamedTold (given r) = Named r

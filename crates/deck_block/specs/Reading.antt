@@ -1,6 +1,6 @@
 -- What a block asks for, and its refusals in their order.
-use Prim.Native.Nat.{ℕ, _≤_}
-use mathlib.Core.Bool.{Bool, not}
+use Prim.Native.Nat.{ℕ, _≤_, _^_, _<_}
+use mathlib.Core.Bool.{Bool, not, true, false}
 use mathlib.Core.List.{List, [], _∷_}
 use lib.ListN.{length}
 use lib.Dec.{eqb, ltb}
@@ -15,6 +15,7 @@ use Rattle.deck_block.specs.declared.Request.the-variants as request
 use Rattle.deck_block.specs.declared.CardAnswer.{CardAnswer}
 use Rattle.deck_block.specs.declared.CardAnswer.the-variants as answer
 use Rattle.deck_block.specs.Block.{blockLength, fieldsOf, blockCheck, allZero, isKind, tooLarge, chipInfoKind, flashIdKind, flashInfoKind, capabilityKind, eraseLbaKind, eraseForceKind, readKind, writeKind, resetKind, storageKind, switchKind, uploadKind, mostDeckSectors, longestImage}
+use mathlib.Core.Path.{_≡_}
 
 -- 45: "reset above 4"
 abbrev pub unknownReset : ℕ
@@ -84,3 +85,26 @@ Fits request.Storage = Unit
 Fits (request.SwitchStorage index) = Unit
 Fits (request.WriteArea area n fill) = n ≤ longestImage
 Fits (request.WriteAreaNoCrc area n fill) = n ≤ longestImage
+
+-- the first sector and the count of an operation are what a command can name
+abbrev pub Named : Request → Type 0
+Named request.ChipInfo = Unit
+Named request.FlashId = Unit
+Named request.FlashInfo = Unit
+Named request.Capability = Unit
+Named (request.EraseLba first count) = (first < 256 ^ 4) × (count < 256 ^ 2)
+Named (request.EraseForce first count) = (first < 256 ^ 4) × (count < 256 ^ 2)
+Named (request.ReadLba first count) = (first < 256 ^ 4) × (count < 256 ^ 2)
+Named (request.WriteLba first count fill) = (first < 256 ^ 4) × (count < 256 ^ 2)
+Named (request.ResetDevice opcode) = Unit
+Named request.Storage = Unit
+Named (request.SwitchStorage index) = Unit
+Named (request.WriteArea area n fill) = Unit
+Named (request.WriteAreaNoCrc area n fill) = Unit
+
+-- the rules that were met on the way
+pub record Passed (block : List ℕ) (r : Request) : Type 0 where
+  pub long : blockLength ≤ length block
+  pub kind : isKind (fieldsOf block .kind) ≡ true
+  pub small : tooLarge (fieldsOf block) ≡ false
+  pub asks : requestOf (fieldsOf block) ≡ given r

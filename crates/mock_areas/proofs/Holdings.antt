@@ -19,7 +19,7 @@ use Rattle.promise.proofs.Over.{length-over, field-before, field-behind, field-
 use Rattle.promise.proofs.Outcome.{Met, by-test, on-test, either-way}
 use Rattle.mock_areas.specs.Slots.{slotCount, slotSize, freeSlot, freshAreas, passes, firstAt, heldAt, isHeld, usedAt, place, areaFound}
 use Rattle.mock_areas.specs.Append.{Appending, heldBy, appendRules, refusedAppend, appendedAt, appendStep}
-use Rattle.mock_areas.specs.Contents.{bytesAt, contents, Sound, soFar, gains, Write, areasAfter, storeAfter, gathered}
+use Rattle.mock_areas.specs.Contents.{bytesAt, contents, Sound, soFar, gains, Write, areasAfter, storeAfter, gathered, Grows}
 use Rattle.mock_areas.specs.declared.Area.{Area}
 use Rattle.mock_areas.specs.declared.Areas.{Areas}
 use Rattle.mock_areas.specs.declared.Place.{Place}
@@ -169,13 +169,6 @@ module _ (areas : Areas) (number i used : ℕ) (bytes store : List ℕ) (sound :
         let full : usedAt j (areas .slots) ≤ slotSize (length store) = sound .within j (held-slot areas store sound b h) in
         rw (h, other-used j far) (ap some (beside j (usedAt j (areas .slots)) far full)))
         (λ h. rw h refl))
-
--- what a write told so makes of the areas and the store: its own area gains, every other stays
-pub record Grows (number : ℕ) (bytes : List ℕ) (areas : Areas) (store : List ℕ) (o : Appending) : Type 0 where
-  pub long : length (o .leaves) ≡ length store
-  pub sound : Sound (o .next) (o .leaves)
-  pub own : contents number (o .next) (o .leaves) ≡ gains (o .told) bytes (contents number areas store)
-  pub others : (b : ℕ) → (b ≡ number → ⊥) → contents b (o .next) (o .leaves) ≡ contents b areas store
 
 -- what the number holds stands in its place's slot, up to what is used of it
 held-so-far : (number : ℕ) (areas : Areas) (store : List ℕ)

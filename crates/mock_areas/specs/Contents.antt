@@ -60,3 +60,10 @@ gathered number areas store [] before = before
 gathered number areas store (w ∷ ws) before =
     gathered number (stepOf areas store w .next) (stepOf areas store w .leaves) ws
     (pick (eqb number (w .number)) (gains (stepOf areas store w .told) (w .bytes) before) before)
+
+-- what a write told so makes of the areas and the store: its own area gains, every other stays
+pub record Grows (number : ℕ) (bytes : List ℕ) (areas : Areas) (store : List ℕ) (o : Appending) : Type 0 where
+  pub long : length (o .leaves) ≡ length store
+  pub sound : Sound (o .next) (o .leaves)
+  pub own : contents number (o .next) (o .leaves) ≡ gains (o .told) bytes (contents number areas store)
+  pub others : (b : ℕ) → (b ≡ number → ⊥) → contents b (o .next) (o .leaves) ≡ contents b areas store

@@ -7,7 +7,7 @@ ghost use mathlib.Core.Path.{_≡_};
 ghost use Rattle.promise.specs.Told.{number};
 ghost use Rattle.mock_base.specs.Flash.{flashSectors, sizeTold, sizeAnswer, rangeIn, rangeTold};
 
-const MOST_SECTORS: usize = 65536;
+const MOST_FLASH_SECTORS: usize = 65536;
 
 // How many sectors a flash has.
 pub enum FlashSectors {
@@ -57,7 +57,7 @@ pub fn flash_sectors(length: usize) -> FlashSectors
     if length % size != 0 {
         return FlashSectors::Refused(MockTransportError::FlashSize(length));
     }
-    if MOST_SECTORS < length / size {
+    if MOST_FLASH_SECTORS < length / size {
         return FlashSectors::Refused(MockTransportError::TooManySectors);
     }
     FlashSectors::Whole(length / size)

@@ -13,23 +13,17 @@ use Rattle.promise.specs.Over.{over}
 use Rattle.promise.proofs.Over.{length-over, field-before, field-behind}
 use Rattle.mock_base.specs.Flash.{flashSectors}
 use Rattle.mock_base.specs.declared.range.FlashRange.{FlashRange}
-use Rattle.mock_table.specs.Turn.{EffectFits, session}
+use Rattle.mock_table.specs.Turn.{EffectFits}
 use Rattle.mock_table.specs.Table.{rangeOf, writeTurn}
 use Rattle.mock_table.specs.declared.session.Session.{Session}
-use Rattle.mock_table.specs.declared.session.CommandState.the-variants.{None}
 use Rattle.mock_table.specs.declared.outcome.Effect.{Effect}
 use Rattle.mock_table.specs.declared.outcome.Effect.the-variants.{Nothing, Fill, Store, Supply, Reply}
 use Rattle.mock_table.proofs.Sane.{write-sane, read-sane}
 use Rattle.mock_table.proofs.Own.{Within, commandOf, write-own}
 use Rattle.mock_effects.specs.Effects.{erased, flashAfter, bufferAfter}
-use Rattle.mock_effects.specs.Steps.{Step, writeStepOf, writeStep, readStepOf, readStep}
+use Rattle.mock_effects.specs.Steps.{writeStepOf, writeStep, readStepOf, readStep, Untouched}
 use Rattle.mock_base.specs.declared.config.MockDeviceConfig.{MockDeviceConfig}
 use Rattle.mock_effects.proofs.Lengths.{taken}
-
--- a refused bulk call leaves what it was lent, and the session, but for a transaction that it ends
-pub record Untouched (s : Session) (lent : List ℕ) (step : Step) : Type 0 where
-  pub leaves : step .leaves ≡ lent
-  pub next : (step .next ≡ s) ⊎ (step .next ≡ session None (s .«last_reset»))
 
 write-refused-of : (t : Told ℕ) (s : Session) (flash bytes : List ℕ) (n : ℕ) (values : List ℕ) → writeStepOf t s flash bytes .told ≡ refused n values
     → Untouched s flash (writeStepOf t s flash bytes)

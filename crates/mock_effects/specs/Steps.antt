@@ -12,6 +12,9 @@ use Rattle.mock_effects.specs.Effects.{flashAfter, bufferAfter}
 use Rattle.mock_base.specs.declared.config.MockDeviceConfig.{MockDeviceConfig}
 use Rattle.mock_effects.specs.declared.SessionStep.{SessionStep}
 use Rattle.promise.specs.Does.{Comes}
+use mathlib.Core.Logic.{_⊎_}
+use Rattle.mock_table.specs.Turn.{session}
+use Rattle.mock_table.specs.declared.session.CommandState.the-variants.{None}
 
 -- what is told, the next session, and the bytes lent mutably as they are left: the flash of a write, the buffer of a read
 abbrev pub Step : Type 0
@@ -50,3 +53,8 @@ pub record StepMeets (r : SessionStep) (after : List ℕ) (s : Step) : Type 0 wh
   pub tells : Answers (r .answer) (s .told)
   pub next : r .session ≡ s .next
   pub leaves : after ≡ s .leaves
+
+-- a refused bulk call leaves what it was lent, and the session, but for a transaction that it ends
+pub record Untouched (s : Session) (lent : List ℕ) (step : Step) : Type 0 where
+  pub leaves : step .leaves ≡ lent
+  pub next : (step .next ≡ s) ⊎ (step .next ≡ session None (s .«last_reset»))

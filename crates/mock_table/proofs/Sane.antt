@@ -21,7 +21,7 @@ use Rattle.protocol.specs.declared.CommandBlock.{CommandBlock}
 use Rattle.promise.proofs.Outcome.{by-test, either-way}
 use Rattle.mock_base.specs.Flash.{fitsIn}
 use Rattle.mock_base.proofs.Fitting.{fits-sectors}
-use Rattle.mock_table.specs.Turn.{Turn, session, refuses, done, hasCode, isErase, isIn, isOut, movedBy, replySize, EffectFits}
+use Rattle.mock_table.specs.Turn.{refuses, done, hasCode, isErase, isIn, isOut, movedBy, replySize, EffectFits, Sane}
 use Rattle.mock_table.specs.Table.{rangeOf, rangeRule, lengthRule, sectorTurn, storedReset, zeroLengthTurn, startTurn, writeIoTurn, writeRow, writeTurn, replyTurn, codeTurn, readIoTurn, statusTurn, readRow, readTurn}
 use Rattle.mock_table.specs.declared.session.CommandState.{CommandState}
 use Rattle.mock_table.specs.declared.session.CommandState.the-variants.{None, IO, Status}
@@ -32,10 +32,6 @@ use Rattle.mock_table.specs.declared.outcome.Effect.{Effect}
 use Rattle.mock_table.specs.declared.outcome.Effect.the-variants.{Nothing, Fill, Reply}
 use Rattle.mock_table.specs.declared.outcome.ReplyKind.{ReplyKind}
 use Rattle.mock_table.specs.declared.outcome.ReplyKind.the-variants as reply
-
-pub record Sane (last : LastReset) (sectors actual : ℕ) (t : Turn) : Type 0 where
-  pub fits : EffectFits sectors actual (t .effect)
-  pub ends : (number : ℕ) (values : List ℕ) → t .told ≡ refused number values → (t .next ≡ session None last) × (t .effect ≡ Nothing)
 
 module _ (last : LastReset) (sectors actual : ℕ) where
   refuses-sane : (number : ℕ) (values : List ℕ) → Sane last sectors actual (refuses last number values)

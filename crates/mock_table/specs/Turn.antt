@@ -25,6 +25,7 @@ use Rattle.mock_table.specs.declared.outcome.ReplyKind.{ReplyKind}
 use Rattle.mock_table.specs.declared.outcome.ReplyKind.the-variants.{FlashId, FlashInfo, ChipInfo, Capability}
 use Rattle.mock_table.specs.declared.outcome.ReplyKind.the-variants as reply
 use Rattle.mock_table.specs.declared.outcome.Outcome.{Outcome}
+use Rattle.mock_table.specs.declared.session.CommandState.the-variants.{None}
 
 pub record Turn : Type 0 where
   pub told : Told Unit
@@ -83,3 +84,8 @@ EffectFits sectors actual (Fill range) = range .first + range .count ≤ sectors
 EffectFits sectors actual (Store range) = (range .first + range .count ≤ sectors) × (actual ≡ range .count * sectorSize)
 EffectFits sectors actual (Supply range) = (range .first + range .count ≤ sectors) × (actual ≡ range .count * sectorSize)
 EffectFits sectors actual (Reply kind) = actual ≡ replySize kind
+
+-- a turn whose effect fits the flash; a refused one has none, and ends the transaction
+pub record Sane (last : LastReset) (sectors actual : ℕ) (t : Turn) : Type 0 where
+  pub fits : EffectFits sectors actual (t .effect)
+  pub ends : (number : ℕ) (values : List ℕ) → t .told ≡ refused number values → (t .next ≡ session None last) × (t .effect ≡ Nothing)

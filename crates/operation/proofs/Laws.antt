@@ -21,8 +21,8 @@ use Rattle.operation.specs.declared.steps.Asked.{Asked}
 use Rattle.operation.specs.declared.steps.Asked.the-variants as asked
 use Rattle.operation.specs.declared.steps.UsbOperation.{UsbOperation}
 use Rattle.operation.specs.Record.{ioOf, transferLength, inbandLength, turned}
-use Rattle.operation.specs.Step.{Asks, writesData, reads, Step, does, stays, commandStep, ioStep, statusStep, finishedTold, finishStep, stepOf, usbStep}
-use Rattle.operation.specs.Give.{Give, takes, keeps, nothingAsked, asksFor, owed, received, giveOf, usbGive}
+use Rattle.operation.specs.Step.{Asks, writesData, reads, Step, does, stays, commandStep, ioStep, statusStep, finishedTold, finishStep, stepOf, usbStep, Stays}
+use Rattle.operation.specs.Give.{takes, keeps, nothingAsked, asksFor, owed, received, giveOf, usbGive, Alike}
 use Rattle.operation.proofs.Cases.{command-bytes-long, give-taken}
 
 -- what each place answers
@@ -67,11 +67,6 @@ module _ (op : UsbOperation) (lent : ℕ) where
   pub write-27 : lent < transferLength op → ioStep io.Write op lent ≡ stays op 27 []
   unfolding ioStep orRefuse
   write-27 h = rw (lt-ltb lent (transferLength op) h)
-
--- "A refusal writes no lent buffer and changes no record": nothing is sent, and the record stays
-pub record Stays (op : UsbOperation) (s : Step) : Type 0 where
-  pub sent : s .sent ≡ []
-  pub next : s .next ≡ op
 
 -- a step that tells a refusal stays, unless it is the finish
 abbrev Refusing : UsbOperation → Step → Type 0
@@ -181,12 +176,6 @@ unfolding giveOf
 puts-at-most op bytes lent =
     either-way (λ g. length (g .sent) ≤ transferLength op) (keeps op) _ (received (op .asked) op bytes) (λ n values. omega arith)
     (λ met. puts (op .asked) op bytes (ltb-false (asksFor (op .asked) op) (length bytes) (met .1 .0)))
-
--- "an empty giving counts as the one": after the data buffer was filled from outside it is the same as giving those bytes
-pub record Alike (data₁ data₂ : List ℕ) (g₁ g₂ : Give) : Type 0 where
-  pub told : g₁ .told ≡ g₂ .told
-  pub next : g₁ .next ≡ g₂ .next
-  pub leaves : front (g₁ .sent) data₁ ≡ front (g₂ .sent) data₂
 
 pub empty-giving : (op : UsbOperation) (bytes data₀ : List ℕ) → op .asked ≡ asked.Sectors → length bytes ≤ transferLength op → transferLength op ≤ length data₀
     → Alike (front bytes data₀) data₀ (usbGive op [] (length (front bytes data₀))) (usbGive op bytes (length data₀))

@@ -21,6 +21,7 @@ use Rattle.operation.specs.Step.{Step, ioStep, statusStep, stepOf, usbSt
 use Rattle.operation.specs.Give.{usbGive}
 use Rattle.operation.proofs.Cases.{command-out}
 use Rattle.operation.proofs.Laws.{data-inband, data-read, data-write, give-keeps}
+use Rattle.operation.specs.Rounds.{Gift, Turn, gifted, played, AllFit}
 
 -- a fresh operation takes 3 steps, or 4 with data
 pub fresh-without : (kind : Kind) (command : CommandBlock) → command .«transfer_length» ≡ 0 → left (fresh kind command) ≡ 3
@@ -86,29 +87,6 @@ one-left operation.Finish l e = refl
 finish-one : (here : Operation) (l : ℕ) → here ≡ operation.Finish → leftAt here l ≡ 1
 unfolding leftAt
 finish-one here l e = rw e
-
--- a step, and then any givings, refused or not
-pub record Gift : Type 0 where
-  pub bytes : List ℕ
-  pub lent : ℕ
-
-pub record Turn : Type 0 where
-  pub lent : ℕ
-  pub room : ℕ
-  pub gifts : List Gift
-
-unfoldable pub gifted : List Gift → UsbOperation → UsbOperation
-gifted [] op = op
-gifted (g ∷ gs) op = gifted gs (usbGive op (g .bytes) (g .lent) .next)
-
-unfoldable pub played : List Turn → UsbOperation → UsbOperation
-played [] op = op
-played (t ∷ ts) op = played ts (gifted (t .gifts) (usbStep op (t .lent) (t .room) .next))
-
--- no turn lends too little for a transfer of that length
-pub AllFit : ℕ → List Turn → Type 0
-AllFit l [] = Unit
-AllFit l (t ∷ ts) = (31 ≤ t .room) × (l ≤ t .lent) × AllFit l ts
 
 gifted-left : (gs : List Gift) (op : UsbOperation) → (left (gifted gs op) ≡ left op) × (transferLength (gifted gs op) ≡ transferLength op)
 unfolding gifted

@@ -1,28 +1,17 @@
 -- The status is read over the command's first 13 bytes. So `USBS` alone is a success of an out command with nothing moved, and 7 of an in command.
-use Prim.Native.Nat.{ℕ}
 use mathlib.Core.Path.{_≡_}
-use mathlib.Core.List.{List, [], _∷_}
-use lib.ListN.{take}
+use mathlib.Core.List.{[], _∷_}
 use Rattle.promise.specs.Told.{given, refused, andThen}
 use Rattle.promise.specs.Rules.{orRefuse}
-use Rattle.promise.specs.Bytes.{front, highFirst, lowFirst}
+use Rattle.promise.specs.Bytes.{highFirst, lowFirst}
 use Rattle.protocol_codes.specs.Reading.{byNumber, known, statusOf}
 use Rattle.protocol_codes.specs.declared.Direction.the-variants.{In, Out}
-use Rattle.protocol_codes.specs.declared.Status.the-variants.{SUCCESS}
-use Rattle.protocol_bytes.specs.Signature.{usbs, same}
+use Rattle.protocol_bytes.specs.Signature.{same}
 use Rattle.protocol.specs.CommandBytes.{commandBytes}
 use Rattle.protocol.specs.declared.CommandBlock.{CommandBlock}
 use Rattle.protocol_status.specs.StatusBytes.{statusBytes, readStatus, StatusFits}
-use Rattle.protocol_status.specs.declared.report.CommandStatus.{CommandStatus}
 use Rattle.protocol_status.proofs.Trips.{reads-back}
-
--- what stands there once `USBS` is given
-abbrev pub usbsAlone : CommandBlock → List ℕ
-usbsAlone c = front usbs (take 13 (commandBytes c))
-
--- a success with the tag of the command and its whole length left
-abbrev pub nothingMoved : CommandBlock → CommandStatus
-nothingMoved c = record { tag = c .tag; residue = c .«transfer_length»; status = SUCCESS }
+use Rattle.operation.specs.Short.{usbsAlone, nothingMoved}
 
 pub out-succeeds : (c : CommandBlock) → c .flags ≡ Out → StatusFits (nothingMoved c) → readStatus (usbsAlone c) ≡ given (nothingMoved c)
 unfolding commandBytes statusBytes highFirst lowFirst

@@ -88,3 +88,9 @@ pub record GiveMeets (r : UsbGiven) (before after : List ℕ) (g : Give) : Type 
   pub tells : givingTold (r .answer) ≡ g .told
   pub next : r .next ≡ g .next
   pub leaves : after ≡ front (g .sent) before
+
+-- "an empty giving counts as the one": after the data buffer was filled from outside it is the same as giving those bytes
+pub record Alike (data₁ data₂ : List ℕ) (g₁ g₂ : Give) : Type 0 where
+  pub told : g₁ .told ≡ g₂ .told
+  pub next : g₁ .next ≡ g₂ .next
+  pub leaves : front (g₁ .sent) data₁ ≡ front (g₂ .sent) data₂

@@ -114,3 +114,8 @@ pub record StepMeets (r : UsbStepped) (before after : List ℕ) (s : Step) : Typ
   pub beside : r .beside ≡ besideAt (s .told)
   pub next : r .next ≡ s .next
   pub leaves : after ≡ front (s .sent) before
+
+-- "A refusal writes no lent buffer and changes no record": nothing is sent, and the record stays
+pub record Stays (op : UsbOperation) (s : Step) : Type 0 where
+  pub sent : s .sent ≡ []
+  pub next : s .next ≡ op

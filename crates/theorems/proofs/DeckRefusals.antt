@@ -21,9 +21,9 @@ use Rattle.theorems.proofs.OperationTold as told
 use Rattle.theorems.specs.Told as ends
 use Rattle.deck_block.specs.declared.Request.{Request}
 use Rattle.deck_block.specs.declared.Request.the-variants as request
-use Rattle.deck_block.specs.Reading.{readCard}
+use Rattle.deck_block.specs.Reading.{readCard, Named}
 use Rattle.deck_block.proofs.ByKind.{passed-rules}
-use Rattle.deck_block.proofs.Fitting.{Named, asked-named}
+use Rattle.deck_block.proofs.Fitting.{asked-named}
 use Rattle.deck_block.proofs.Refusals.{card-told}
 use Rattle.deck_block.specs.Refusals.{isAmong, blockRefusals, CardTold}
 use Rattle.deck.specs.Verdict.{numbered, loadTold}

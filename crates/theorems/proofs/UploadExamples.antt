@@ -2,7 +2,7 @@
 use Prim.Native.Nat.{ℕ, _+_, _/_, _%_, _≤_}
 use mathlib.Core.Path.{_≡_, refl, ap, ap₂, _∙_}
 use mathlib.Core.Bool.{Bool, true, false}
-use mathlib.Core.List.{List, [], _∷_, _++_, map, flatten}
+use mathlib.Core.List.{List, [], _∷_, _++_}
 use native.Mathlib.Omega.{arith}
 use lib.ListN.{length, replicate}
 use Rattle.promise.specs.Bytes.{lowFirst, highFirst}
@@ -10,7 +10,7 @@ use Rattle.crc.specs.Check.{crcOver}
 use Rattle.maskrom_transfer.specs.Moves.{blockSize, checkBytes}
 use Rattle.maskrom.specs.Answers.{longest}
 use Rattle.theorems.specs.UploadBytes.{pad, lastZero, uploadBytes, pieces, cut, total}
-use Rattle.theorems.specs.PartDriver.{transfer, ended, driveParts, transfersOf}
+use Rattle.theorems.specs.PartDriver.{transfer, transfersOf, sizesOf, Uploads}
 use Rattle.theorems.proofs.AnyCut.{any-cut, how-many, sizes}
 
 -- P3, P4: the empty image
@@ -21,10 +21,6 @@ p3 area = refl
 pub p4 : (area : ℕ) → transfersOf area false [] ≡ transfer area (0x00 ∷ 0x00 ∷ []) ∷ []
 unfolding transfersOf uploadBytes pad checkBytes lastZero pieces cut
 p4 area = refl
-
--- the sizes of an upload's transfers
-abbrev sizesOf : Bool → List ℕ → List ℕ
-sizesOf checked image = map length (cut (uploadBytes checked image))
 
 sizes-at : (checked : Bool) (image : List ℕ) (n : ℕ) → length image ≡ n
     → sizesOf checked image ≡ replicate (total n / blockSize) blockSize ++ (total n % blockSize ∷ [])
@@ -47,13 +43,6 @@ module _ (checked : Bool) (image : List ℕ) where
   pub p8 : length image ≡ 4096 → sizesOf checked image ≡ 4096 ∷ 2 ∷ []
   unfolding total pad lastZero
   p8 e = sizes-at checked image 4096 e
-
--- an image of n bytes under any cut: what comes of it, how many transfers, and how long the last is
-pub record Uploads (n many last : ℕ) : Type 0 where
-  pub ends : (area : ℕ) (checked : Bool) (image : List ℕ) (parts : List (List ℕ)) (out : List ℕ) → length image ≡ n → flatten parts ≡ image
-      → blockSize ≤ length out → driveParts area checked parts out ≡ ended (transfersOf area checked image)
-  pub number : (area : ℕ) (checked : Bool) (image : List ℕ) → length image ≡ n → length (transfersOf area checked image) ≡ many + 1
-  pub lengths : (checked : Bool) (image : List ℕ) → length image ≡ n → sizesOf checked image ≡ replicate many blockSize ++ (last ∷ [])
 
 uploads : (n many last : ℕ) → n ≤ longest → total n / blockSize ≡ many → total n % blockSize ≡ last → Uploads n many last
 uploads n many last l q r = record {

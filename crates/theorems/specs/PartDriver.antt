@@ -1,8 +1,8 @@
 -- Handing an image over to the end: the driver sees nothing of an upload but its answers and the output.
-use Prim.Native.Nat.{ℕ, zero, suc, _+_}
+use Prim.Native.Nat.{ℕ, zero, suc, _+_, _≤_}
 use mathlib.Core.Bool.{Bool}
-use mathlib.Core.List.{List, [], _∷_, map}
-use lib.ListN.{length, take, drop}
+use mathlib.Core.List.{List, [], _∷_, map, _++_, flatten}
+use lib.ListN.{length, take, drop, replicate}
 use Rattle.promise.specs.Told.{Told, given, refused}
 use Rattle.promise.specs.Bytes.{front}
 use Rattle.maskrom.specs.declared.Control.{Control}
@@ -13,6 +13,8 @@ use Rattle.promise.specs.Does.{Does, said, sent, after}
 use Rattle.maskrom.specs.Answers.{control, Handed, took, filled, Asks, writes, finish}
 use Rattle.maskrom.specs.PartWise.{fresh, partStep, closeStep}
 use Rattle.maskrom.specs.Whole.{freshWhole, startStep, wholeStep}
+use mathlib.Core.Path.{_≡_}
+use Rattle.maskrom_transfer.specs.Moves.{blockSize}
 
 -- a control write and the bytes that go with it
 pub record Transfer : Type 0 where
@@ -94,3 +96,14 @@ transfer area bs = record { setup = control area (length bs); bytes = bs }
 
 unfoldable pub transfersOf : ℕ → Bool → List ℕ → List Transfer
 transfersOf area checked image = map (transfer area) (cut (uploadBytes checked image))
+
+-- the sizes of an upload's transfers
+abbrev pub sizesOf : Bool → List ℕ → List ℕ
+sizesOf checked image = map length (cut (uploadBytes checked image))
+
+-- an image of n bytes under any cut: what comes of it, how many transfers, and how long the last is
+pub record Uploads (n many last : ℕ) : Type 0 where
+  pub ends : (area : ℕ) (checked : Bool) (image : List ℕ) (parts : List (List ℕ)) (out : List ℕ) → length image ≡ n → flatten parts ≡ image
+      → blockSize ≤ length out → driveParts area checked parts out ≡ ended (transfersOf area checked image)
+  pub number : (area : ℕ) (checked : Bool) (image : List ℕ) → length image ≡ n → length (transfersOf area checked image) ≡ many + 1
+  pub lengths : (checked : Bool) (image : List ℕ) → length image ≡ n → sizesOf checked image ≡ replicate many blockSize ++ (last ∷ [])
