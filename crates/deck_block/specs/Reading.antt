@@ -49,7 +49,7 @@ requestOf f =
     (pick (eqb (f .kind) uploadKind) (given (request.WriteArea (f .half) (f .word) (f .byte)))
     (given (request.WriteAreaNoCrc (f .half) (f .word) (f .byte))))))))))))))
 
--- "Refused in order: 44 short last block, 40 check, 41 kind, 42 bytes 8-509, 43 .., 45 reset above 4"
+-- "Refused in order: 44 short last block .., 40 check, 41 kind, 42 bytes 8-509, 43 .., 45 reset above 4"
 unfoldable pub readCard : ℕ → List ℕ → Told Request
 readCard tag block =
     unless

@@ -49,7 +49,7 @@ asksFor asked.Inband op = inbandLength op
 asksFor asked.Sectors op = transferLength op
 asksFor asked.Status op = statusSize
 
--- how long the caller's data has to be: "sector data below the transfer length .. when its bytes are given", "never at the status"
+-- how long the caller's data has to be: "sector data below the transfer length .. when its bytes are given", and nothing at the status
 unfoldable pub owed : Asked → UsbOperation → ℕ
 owed asked.Nothing op = 0
 owed asked.Inband op = 0

@@ -27,7 +27,7 @@ by-turn P (ends told s) short long f g = f told s
 by-turn P (goes s) short long f g = g s
 
 module _ {A S : Type 0} (turn : S → Turned A S) where
-  -- "28: budget used": the count is the budget
+  -- 28: the count is then the budget
   pub spent-all : (budget : ℕ) (s : S) → runs turn budget s .end ≡ outOfSteps → runs turn budget s .steps ≡ budget
   unfolding runs
   spent-all zero s e = refl

@@ -13,7 +13,7 @@ pub data End (A : Type 0) : Type 0 where
   tells : Told A → End A
   outOfSteps : End A
 
--- "28 out of steps: budget used before a finish or refusal"
+-- 28, out of steps: "budget used before a finish or refusal"
 abbrev pub stepsUsed : ℕ
 stepsUsed = 28
 

@@ -41,6 +41,6 @@ unstarted s number values = ran (tells (refused number values)) 0 s
 unfoldable pub usbRun : UsbState → ℕ → ℕ → Ran Reply UsbState
 usbRun s store budget = orRefuse (unstarted s) (runRules s store) (runs usbTurn budget s)
 
--- "One whole operation": command, data, status and finish
+-- one whole operation: command, data, status and finish
 abbrev pub wholeBudget : ℕ
 wholeBudget = 4

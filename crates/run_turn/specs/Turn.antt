@@ -37,7 +37,7 @@ onward (refused number values) s = ends (refused number values) s
 abbrev pub wrote : UsbState → Call → Turned Reply UsbState
 wrote s w = onward (w .told) (usbState (s .operation) (w .next) (w .leaves) (s .«data»))
 
--- "It has its own transfer buffers .. for statuses and in-band replies; sector data goes straight between the caller's buffer and the flash"
+-- "A run has its own transfer buffers": zeros for statuses and in-band replies. Sector data goes straight between the caller's data and the flash
 unfoldable pub bufferFor : Asked → ℕ → UsbState → List ℕ
 bufferFor asked.Sectors n s = take n (s .«data»)
 bufferFor asked.Nothing n s = replicate n 0
