@@ -1,6 +1,7 @@
--- Uploads. `Answers` has number and values of each answer, `PartWise` and `Whole` the two ways to hand an image over, `Code` what the private
--- functions make.
+-- Uploads. `Answers` has number and values of each answer, `PartWise` and `Whole` the two ways to hand an image over, `Calls` any sequence of calls on
+-- one upload, `Code` what the private functions make.
 pub mod Answers
 pub mod PartWise
 pub mod Whole
+pub mod Calls
 pub mod Code
