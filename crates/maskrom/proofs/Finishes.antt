@@ -20,7 +20,7 @@ use Rattle.maskrom.specs.declared.WholeStepped.{WholeStepped}
 use Rattle.maskrom.specs.Answers.{Asks, finish, stepTold}
 use Rattle.maskrom.specs.PartWise.{held, closed, asks, withMoved, closeStep}
 use Rattle.maskrom.specs.Whole.{most, chunk, sentOn, wholeStep}
-use Rattle.maskrom.specs.Calls.{CloseMeets, StepMeets, PartCalls, no-calls, part-call, close-call, WholeCalls, no-steps, step-call}
+use Rattle.maskrom.specs.Calls.{CloseMeets, StepMeets, PartCalls, no-calls, part-call, close-call, WholeCalls, no-steps, step-call, unlessRefused}
 use Rattle.maskrom.proofs.Cases.{close-20, close-acts, whole-20, whole-27, whole-sends, sends-acts}
 use Rattle.maskrom.proofs.Register.{register-empty}
 use Rattle.maskrom.proofs.Branches.{clash, as-step, close-either, step-either}
@@ -151,11 +151,26 @@ module _ (u : WholeUpload) (done : u .steps ≡ Done) where
     step-same : r .next ≡ u
     step-same = stands-by (decLt (length before) 4096) (ℕ-discrete (length image) (u .length))
 
-pub whole-done-stays : (lends : List ℕ → Type 0) (u : WholeUpload) → u .steps ≡ Done → (p : List ℕ) (later : WholeUpload) → WholeCalls lends u p later → later ≡ u
-whole-done-stays lends u done p later no-steps = refl
+none-gone : (told : Told Asks) → unlessRefused told [] ≡ []
+unfolding unlessRefused
+none-gone (given a) = refl
+none-gone (refused n values) = refl
+
+none-sent : (told : Told Asks) (u : WholeUpload) (image : List ℕ) → u .steps ≡ Done → unlessRefused told (chunk u image) ≡ []
+unfolding most
+none-sent told u image done =
+    ap (λ (s : MaskRomSteps). unlessRefused told (take (most s) (drop (u .taken) image))) done ∙ none-gone told
+
+-- steps at a finished record leave it, and take nothing
+pub whole-done-stays : (lends : List ℕ → Type 0) (u : WholeUpload) → u .steps ≡ Done → (p : List ℕ) (later : WholeUpload) → WholeCalls lends u p later
+    → (later ≡ u) × (p ≡ [])
+whole-done-stays lends u done p later no-steps = (refl, refl)
 whole-done-stays lends u done p later (step-call q here calls image lent r before now meets) =
     let so-far = whole-done-stays lends u done q here calls in
-    step-same here (ap (λ (n : WholeUpload). n .steps) so-far ∙ done) r image before now meets ∙ so-far
+    let here-done = ap (λ (n : WholeUpload). n .steps) (so-far .0) ∙ done in (
+      step-same here here-done r image before now meets ∙ so-far .0,
+      ap₂ (λ (a b : List ℕ). a ++ b) (so-far .1) (none-sent (stepTold (r .step)) here image here-done),
+    )
 
 -- once a whole-upload step was answered the finish
 module _ (r : WholeStepped) (u : WholeUpload) (image before now : List ℕ) (meets : StepMeets r u image before now) (told : stepTold (r .step) ≡ given finish) where
@@ -179,7 +194,7 @@ module _ (r : WholeStepped) (u : WholeUpload) (image before now : List ℕ) (mee
     unfolding after
     whole-finished-stays =
         let next : r .next ≡ u = whole-finish-leaves .next in
-        whole-done-stays lends (r .next) (ap (λ (n : WholeUpload). n .steps) next ∙ whole-finish-at-done) p later calls ∙ next
+        whole-done-stays lends (r .next) (ap (λ (n : WholeUpload). n .steps) next ∙ whole-finish-at-done) p later calls .0 ∙ next
 
     -- .. and a later step is answered the finish again, unless it is refused with 20 or 27
     pub whole-finish-for-ever : (s : WholeStepped) (image′ before′ now′ : List ℕ) → StepMeets s later image′ before′ now′
