@@ -7,7 +7,7 @@ use native.Mathlib.Omega.{arith}
 use native.Mathlib.Decide.{ℕ-discrete, decLt}
 use borrow.Author.Tests.{lt-ltb, le-ltb}
 use lib.ListN.{length, take, drop, length-append, length-take, length-drop}
-use lib.Seq.{take-add}
+use lib.Seq.{take-add, take-length}
 use Rattle.promise.specs.Told.{Told, given, refused}
 use Rattle.promise.specs.Rules.{orRefuse}
 use Rattle.promise.specs.Does.{Does, said, after}
@@ -232,3 +232,18 @@ module _ (area : ℕ) (checked : Bool) (whole : ℕ) (p : List ℕ) (u : WholeUp
   unfolding covers
   whole-done e =
       (subst (λ (s : MaskRomSteps). WholePlace s whole (length p)) e (known .place), known .crc ∙ ap (λ (s : MaskRomSteps). register checked start (covers s p)) e)
+
+all-by : (s : MaskRomSteps) (whole n : ℕ) → (s ≡ Writing → ⊥) → WholePlace s whole n → n ≡ whole
+all-by Writing whole n behind place = absurd (behind refl)
+all-by Check whole n behind place = place .0
+all-by Dummy whole n behind place = place .0
+all-by Done whole n behind place = place
+
+-- behind the image, at the finish too, it is all of the image that was taken
+pub all-taken : (area : ℕ) (checked : Bool) (image p : List ℕ) (u : WholeUpload) (made : WholeMade (λ (lent : List ℕ). lent ≡ image) area checked image p u)
+    → startTold (made .begun .start) ≡ given tt → (u .steps ≡ Writing → ⊥) → p ≡ image
+all-taken area checked image p u made told behind =
+    let known = whole-made (λ (lent : List ℕ). lent ≡ image) area checked image p u made in
+    let n : u .taken ≡ length image =
+    known .taken ∙ all-by (u .steps) (startLength image) (length p) behind (known .place) ∙ started-length area checked image (made .begun) (made .starts) told in
+    same-image area checked image image p u made ∙ ap (λ (k : ℕ). take k image) n ∙ take-length image
