@@ -7,8 +7,6 @@ use native.Mathlib.Omega.{arith}
 use lib.Dec.{ltb}
 use lib.ListN.{length, take, drop, replicate, length-replicate, replicate-append-replicate}
 use lib.Seq.{length-take-le, take-at}
-use types.Run.{OneOf, miss}
-use denote.Enum.Declared.{tagOf}
 use Rattle.promise.specs.Told.{Told, given, refused, andThen}
 use Rattle.promise.specs.Rules.{rule}
 use Rattle.promise.specs.Bytes.{front}
@@ -32,17 +30,18 @@ use Rattle.operation.specs.declared.steps.UsbOperation.{UsbOperation}
 use Rattle.operation.specs.declared.steps.UsbStep.{UsbStep}
 use Rattle.operation.specs.declared.steps.UsbStep.the-variants as step
 use Rattle.operation.specs.declared.steps.UsbStepped.{UsbStepped}
-use Rattle.operation.proofs.steps.UsbStep.{the-type}
 use Rattle.operation.specs.Step.{Asks, finishedTold, usbStep, stepTold, besideAsks, besideAt, StepMeets}
 use Rattle.operation.specs.Give.{Give, keeps, nothingAsked, asksFor, owed, giveOf}
 use Rattle.operation.specs.Give as give
 use Rattle.mock.specs.declared.device.MockState.{MockState}
 use Rattle.mock.specs.Device.{Call, writeBulk, readBulk}
 use Rattle.promise.specs.Run.{Turned, ends, goes}
+use Rattle.run_turn.specs.declared.Stop.{Stop}
+use Rattle.run_turn.specs.declared.Stop.the-variants as stop
 use Rattle.run_turn.specs.declared.UsbTurned.{UsbTurned}
 use Rattle.run_turn.specs.Turn.{UsbState, usbState, onward, wrote, landed, gives, received, got, bufferFor, transfers, usbTurn}
 use Rattle.run_turn.specs.Answers.{stopTold, signatureTold, besideTold, turnTold, besideTurned, TurnMeets}
-use Rattle.run_turn.specs.Code.{turnAfter, whereDone, stopAt, turnedBy, endedBy}
+use Rattle.run_turn.specs.Code.{turnAfter, whereDone, turnedBy, endedBy}
 use Rattle.run_turn.proofs.Fine.{Fine, fine}
 
 -- the device's answer
@@ -217,47 +216,34 @@ module _ (s : UsbState) (stepped : UsbStepped) (out : List ℕ) (m : StepMeets s
         ∙ sym (turned-by (step.ReadStatus n) e)) t
 
   -- the end, with what stands beside it
-  ends-meets : (x : UsbStep) → stepped .step ≡ x
+  ends-meets : (x : UsbStep) (stop : Stop) → stepped .step ≡ x
       → transfers (stepTold x (stepped .beside)) (usbStep (s .operation) (length (s .«data»)) 31 .sent) (usbState (stepped .next) (s .device) (s .flash) (s .«data»))
-      ≡ ends (stopTold (stopAt x) (stepped .beside)) (usbState (stepped .next) (s .device) (s .flash) (s .«data»))
-      → besideAt (stepTold x (stepped .beside)) ≡ besideTold (stopTold (stopAt x) (stepped .beside))
-      → TurnMeets (endedBy (stopAt (stepped .step)) (stepped .beside) (stepped .next) (s .device)) (s .flash) (s .«data») (usbTurn s)
+      ≡ ends (stopTold stop (stepped .beside)) (usbState (stepped .next) (s .device) (s .flash) (s .«data»))
+      → besideAt (stepTold x (stepped .beside)) ≡ besideTold (stopTold stop (stepped .beside))
+      → TurnMeets (endedBy stop (stepped .beside) (stepped .next) (s .device)) (s .flash) (s .«data») (usbTurn s)
   unfolding turnTold besideTurned
-  ends-meets x e f b =
-      subst (λ (y : UsbStep). TurnMeets (endedBy (stopAt y) (stepped .beside) (stepped .next) (s .device)) (s .flash) (s .«data») (usbTurn s)) (sym e)
-      (subst (λ (u : Turned Reply UsbState). TurnMeets (endedBy (stopAt x) (stepped .beside) (stepped .next) (s .device)) (s .flash) (s .«data») u)
+  ends-meets x stop e f b =
+      subst (λ (u : Turned Reply UsbState). TurnMeets (endedBy stop (stepped .beside) (stepped .next) (s .device)) (s .flash) (s .«data») u)
       (sym (turned-by x e ∙ f))
-      (record { tells = refl; beside = m .beside ∙ ap besideAt (asked-for x e) ∙ b }))
+      (record { tells = refl; beside = m .beside ∙ ap besideAt (asked-for x e) ∙ b })
 
-  finish-meets : (finish : FinishAnswer) → stepped .step ≡ step.Finished finish
-      → TurnMeets (endedBy (stopAt (stepped .step)) (stepped .beside) (stepped .next) (s .device)) (s .flash) (s .«data») (usbTurn s)
-  unfolding stepTold stopTold stopAt
+  pub finish-meets : (finish : FinishAnswer) → stepped .step ≡ step.Finished finish
+      → TurnMeets (endedBy (stop.Finished finish) (stepped .beside) (stepped .next) (s .device)) (s .flash) (s .«data») (usbTurn s)
+  unfolding stepTold stopTold
   finish-meets finish e =
-      ends-meets (step.Finished finish) e
+      ends-meets (step.Finished finish) (stop.Finished finish) e
       (finished-ends (finishTold finish (stepped .beside)) (usbStep (s .operation) (length (s .«data»)) 31 .sent) (usbState (stepped .next) (s .device) (s .flash) (s .«data»)))
       (beside-finish finish (stepped .beside))
 
-  short-meets : stepped .step ≡ step.OutputTooShort
-      → TurnMeets (endedBy (stopAt (stepped .step)) (stepped .beside) (stepped .next) (s .device)) (s .flash) (s .«data») (usbTurn s)
-  unfolding stepTold stopTold stopAt transfers besideAt besideOf besideTold signatureTold signatureBeside innerSignature signatureIn
-  short-meets e = ends-meets step.OutputTooShort e refl refl
+  pub short-meets : stepped .step ≡ step.OutputTooShort
+      → TurnMeets (endedBy stop.OutputTooShort (stepped .beside) (stepped .next) (s .device)) (s .flash) (s .«data») (usbTurn s)
+  unfolding stepTold stopTold transfers besideAt besideOf besideTold signatureTold signatureBeside innerSignature signatureIn
+  short-meets e = ends-meets step.OutputTooShort stop.OutputTooShort e refl refl
 
-  differs-meets : stepped .step ≡ step.DataDiffers
-      → TurnMeets (endedBy (stopAt (stepped .step)) (stepped .beside) (stepped .next) (s .device)) (s .flash) (s .«data») (usbTurn s)
-  unfolding stepTold stopTold stopAt transfers besideAt besideOf besideTold signatureTold signatureBeside innerSignature signatureIn
-  differs-meets e = ends-meets step.DataDiffers e refl refl
-
-  -- what the run's `_` arm knows is that no transfer is asked for
-  pub stop-meets : (x : UsbStep) → stepped .step ≡ x → OneOf (5 ∷ 6 ∷ 7 ∷ []) (tagOf the-type x)
-      → TurnMeets (endedBy (stopAt (stepped .step)) (stepped .beside) (stepped .next) (s .device)) (s .flash) (s .«data») (usbTurn s)
-  stop-meets step.WriteCommand e h = absurd (miss (5 ∷ 6 ∷ 7 ∷ []) 0 tt h)
-  stop-meets (step.WriteData n) e h = absurd (miss (5 ∷ 6 ∷ 7 ∷ []) 1 tt h)
-  stop-meets (step.ReadInband n) e h = absurd (miss (5 ∷ 6 ∷ 7 ∷ []) 2 tt h)
-  stop-meets (step.ReadData n) e h = absurd (miss (5 ∷ 6 ∷ 7 ∷ []) 3 tt h)
-  stop-meets (step.ReadStatus n) e h = absurd (miss (5 ∷ 6 ∷ 7 ∷ []) 4 tt h)
-  stop-meets (step.Finished finish) e h = finish-meets finish e
-  stop-meets step.OutputTooShort e h = short-meets e
-  stop-meets step.DataDiffers e h = differs-meets e
+  pub differs-meets : stepped .step ≡ step.DataDiffers
+      → TurnMeets (endedBy stop.DataDiffers (stepped .beside) (stepped .next) (s .device)) (s .flash) (s .«data») (usbTurn s)
+  unfolding stepTold stopTold transfers besideAt besideOf besideTold signatureTold signatureBeside innerSignature signatureIn
+  differs-meets e = ends-meets step.DataDiffers stop.DataDiffers e refl refl
 
 -- a part that was lent and comes back `last` stands at the front of the whole
 pub lent-front : (size : ℕ) (room last buffer : List ℕ) → size ≤ length room → length last ≡ length (take size room) → last ≡ buffer

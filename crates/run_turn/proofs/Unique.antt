@@ -1,6 +1,7 @@
 -- Two turns that the contract allows are equal: each is read off what it tells.
 use Prim.Native.Nat.{ℕ}
 use mathlib.Core.Path.{_≡_, refl, ap, ap₂, sym, _∙_}
+use mathlib.Core.Bool.{Bool, true, false}
 use mathlib.Core.List.{List, [], _∷_}
 use lib.Dec.{eqb, ltb}
 use lib.ListN.{getD}
@@ -16,6 +17,7 @@ use Rattle.mock_base.specs.declared.error.MockResult.the-variants.{Done, Refuse
 use Rattle.mock_base.proofs.Unique.{errorFrom, resultFrom, result-from}
 use Rattle.operation_finish.specs.Reply.{Reply, finishTold}
 use Rattle.operation_finish.specs.declared.Beside.{Beside}
+use Rattle.operation_finish.specs.declared.Kind.{Kind}
 use Rattle.operation_finish.specs.declared.FinishAnswer.{FinishAnswer}
 use Rattle.operation_finish.specs.declared.FinishAnswer.the-variants.{Replied, Failed}
 use Rattle.operation_finish.proofs.Unique.{answerOf, answer-of}
@@ -25,8 +27,8 @@ use Rattle.run_turn.specs.declared.Stop.the-variants as stop
 use Rattle.run_turn.specs.declared.Turn.{Turn}
 use Rattle.run_turn.specs.declared.Turn.the-variants as turn
 use Rattle.run_turn.specs.declared.UsbTurned.{UsbTurned}
-use Rattle.run_turn.specs.Turn.{UsbState, usbState}
-use Rattle.run_turn.specs.Answers.{stopTold, turnTold, TurnMeets}
+use Rattle.run_turn.specs.Turn.{UsbState, usbState, isWrite, lentTo}
+use Rattle.run_turn.specs.Answers.{stopTold, turnTold, TurnMeets, LentMeets}
 
 -- the stop that tells this: 20, 27, 10 to 15, or the device's
 abbrev deviceFor : ℕ → List ℕ → Stop
@@ -98,9 +100,10 @@ unfolding turnTold
 state-in turn.Goes b s = refl
 state-in (turn.Ends x) b s = refl
 
-pub turn-unique : (r s : UsbTurned) (flash₁ flash₂ bytes₁ bytes₂ : List ℕ) (t : Turned Reply UsbState) → TurnMeets r flash₁ bytes₁ t → TurnMeets s flash₂ bytes₂ t
+-- answer, flash and the caller's data
+same-turn : (r s : UsbTurned) (flash₁ flash₂ bytes₁ bytes₂ : List ℕ) (t : Turned Reply UsbState) → TurnMeets r flash₁ bytes₁ t → TurnMeets s flash₂ bytes₂ t
     → (r ≡ s) × (flash₁ ≡ flash₂) × (bytes₁ ≡ bytes₂)
-turn-unique r s flash₁ flash₂ bytes₁ bytes₂ t p q =
+same-turn r s flash₁ flash₂ bytes₁ bytes₂ t p q =
     let left = usbState (r .operation) (r .device) flash₁ bytes₁ in
     let right = usbState (s .operation) (s .device) flash₂ bytes₂ in
     let told : turnTold (r .turn) (r .beside) left ≡ turnTold (s .turn) (s .beside) right = p .tells ∙ sym (q .tells) in
@@ -112,3 +115,16 @@ turn-unique r s flash₁ flash₂ bytes₁ bytes₂ t p q =
       ap (λ (z : UsbState). z .flash) states,
       ap (λ (z : UsbState). z .«data») states,
     )
+
+-- of what is lent to read into, and so of what is left of it, the kind says which of the two equations holds
+room-same : (w : Bool) (source room room₁ room₂ : List ℕ) → (w ≡ true → room₁ ≡ room) → (w ≡ true → room₂ ≡ room)
+    → pick w source room₁ ≡ pick w source room₂ → room₁ ≡ room₂
+room-same true source room room₁ room₂ first second e = first refl ∙ sym (second refl)
+room-same false source room room₁ room₂ first second e = e
+
+pub turn-unique : (r s : UsbTurned) (kind : Kind) (source room flash₁ flash₂ room₁ room₂ : List ℕ) (t : Turned Reply UsbState)
+    → LentMeets r kind source room flash₁ room₁ t → LentMeets s kind source room flash₂ room₂ t
+    → (r ≡ s) × (flash₁ ≡ flash₂) × (room₁ ≡ room₂)
+turn-unique r s kind source room flash₁ flash₂ room₁ room₂ t p q =
+    let same = same-turn r s flash₁ flash₂ (lentTo kind source room₁) (lentTo kind source room₂) t (p .turns) (q .turns) in
+    (same .0, same .1, room-same (isWrite kind) source room room₁ room₂ (p .spare) (q .spare) (same .2))

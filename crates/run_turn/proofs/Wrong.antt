@@ -2,11 +2,13 @@
 use Prim.Native.Nat.{ℕ, _≤_}
 use mathlib.Core.Path.{_≡_, refl, ap, sym, _∙_}
 use mathlib.Core.Bool.{Bool, true, false}
-use mathlib.Core.List.{List, []}
+use mathlib.Core.List.{List, [], _∷_}
 use native.Mathlib.Omega.{arith}
+use lib.ListN.{getD}
 use Rattle.promise.specs.Told.{Told, given, refused, number, andThen}
 use Rattle.promise.specs.Rules.{orRefuse}
 use Rattle.protocol.specs.Commands.{readLbaCommand}
+use Rattle.protocol.specs.declared.CommandBlock.{CommandBlock}
 use Rattle.mock_base.specs.declared.error.MockTransportError.the-variants as error
 use Rattle.operation_finish.specs.declared.Beside.{Beside}
 use Rattle.operation_finish.specs.declared.FinishAnswer.the-variants.{Replied}
@@ -26,7 +28,7 @@ use Rattle.run_turn.specs.declared.Turn.{Turn}
 use Rattle.run_turn.specs.declared.Turn.the-variants as turn
 use Rattle.run_turn.specs.declared.UsbTurned.{UsbTurned}
 use Rattle.run_turn.specs.Turn.{UsbState, usbState, transfers, isWrite, usbTurn}
-use Rattle.run_turn.specs.Answers.{stopTold, turnTold, TurnMeets}
+use Rattle.run_turn.specs.Answers.{stopTold, turnTold, TurnMeets, LentMeets}
 use Rattle.run_turn.proofs.Unique.{stateIn, state-in}
 
 -- whatever a finish tells, the turn ends with it
@@ -83,6 +85,13 @@ module _ (op : UsbOperation) (device : MockState) (flash bytes : List ℕ) where
         let clash : turnTold (turn.Ends stop.OutputTooShort) (r .beside) s ≡ ends (refused 27 []) (usbState ofSector device flash []) =
         ap (λ (t : Turn). turnTold t (r .beside) s) (sym e) ∙ meets .tells ∙ turn-differs in
         let z : _≡_ {A = ℕ} 20 27 = cc in omega arith
+
+-- a turn that writes over what a write is lent to read into, whatever it does elsewhere
+pub room-scribbled : (r : UsbTurned) (command : CommandBlock) (device : MockState) (source flash flash-now : List ℕ) (byte other : ℕ) → (other ≡ byte → ⊥)
+    → LentMeets r kind.Write source (byte ∷ []) flash-now (other ∷ []) (usbTurn (usbState (fresh kind.Write command) device flash source)) → ⊥
+unfolding isWrite
+room-scribbled r command device source flash flash-now byte other differ meets =
+    differ (ap (λ (l : List ℕ). getD l 0 0) (meets .spare refl))
 
 -- a read taken for a write
 pub reading-taken-for-writing : (r : Bool) → r ≡ isWrite kind.Read → r ≡ true → ⊥

@@ -1,6 +1,7 @@
 -- Number and values of what a run stops with, and what stands beside the answer.
 use Prim.Native.Nat.{ℕ}
 use mathlib.Core.Path.{_≡_}
+use mathlib.Core.Bool.{true}
 use mathlib.Core.List.{List, []}
 use lib.Dec.{eqb}
 use Rattle.promise.specs.Told.{Told, given, refused}
@@ -9,13 +10,14 @@ use Rattle.protocol_bytes.specs.Signature.{noSignature}
 use Rattle.mock_base.specs.Told.{errorTold, signatureBeside}
 use Rattle.operation_finish.specs.Reply.{Reply, finishTold, blank, badSignature, besideReply}
 use Rattle.operation_finish.specs.declared.Beside.{Beside}
+use Rattle.operation_finish.specs.declared.Kind.{Kind}
 use Rattle.promise.specs.Run.{Turned, ends, goes}
 use Rattle.run_turn.specs.declared.Stop.{Stop}
 use Rattle.run_turn.specs.declared.Stop.the-variants as stop
 use Rattle.run_turn.specs.declared.Turn.{Turn}
 use Rattle.run_turn.specs.declared.Turn.the-variants as turn
 use Rattle.run_turn.specs.declared.UsbTurned.{UsbTurned}
-use Rattle.run_turn.specs.Turn.{UsbState, usbState}
+use Rattle.run_turn.specs.Turn.{UsbState, usbState, isWrite, lentTo}
 
 -- the operation's finish, the device's refusal, or a step's
 unfoldable pub stopTold : Stop → Beside → Told Reply
@@ -44,3 +46,9 @@ besideTurned (ends told s) = besideTold told
 pub record TurnMeets (r : UsbTurned) (flash bytes : List ℕ) (t : Turned Reply UsbState) : Type 0 where
   pub tells : turnTold (r .turn) (r .beside) (usbState (r .operation) (r .device) flash bytes) ≡ t
   pub beside : r .beside ≡ besideTurned t
+
+-- a turn of an operation of this kind, lent `source` to write from and `room` to read into, that answers r and leaves the flash and `room` so: of the
+-- two one is the caller's data, and a `room` that is not stays as it was
+pub record LentMeets (r : UsbTurned) (kind : Kind) (source room flash room-after : List ℕ) (t : Turned Reply UsbState) : Type 0 where
+  pub turns : TurnMeets r flash (lentTo kind source room-after) t
+  pub spare : isWrite kind ≡ true → room-after ≡ room

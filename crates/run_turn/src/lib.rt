@@ -22,8 +22,8 @@ ghost use Rattle.operation.specs.Step.{StepMeets, usbStep};
 ghost use Rattle.operation.specs.Give.{usbGive};
 ghost use Rattle.mock.specs.Device.{writeBulk, readBulk};
 ghost use Rattle.run_turn.specs.Turn.{usbState, onward, wrote, got, isWrite, lentTo, usbTurn};
-ghost use Rattle.run_turn.specs.Answers.{stopTold, TurnMeets};
-ghost use Rattle.run_turn.specs.Code.{turnAfter, whereDone, stopAt, endedBy};
+ghost use Rattle.run_turn.specs.Answers.{stopTold, TurnMeets, LentMeets};
+ghost use Rattle.run_turn.specs.Code.{turnAfter, whereDone, endedBy};
 
 // What a run stops with before its budget is used.
 pub enum Stop {
@@ -178,22 +178,11 @@ fn step_over(operation: UsbOperation, source: &[u8], room: &[u8], out: &mut [u8]
     operation.step(room, out)
 }
 
-// What the run stops with at a step that asks for no transfer.
-fn stop_at(step: UsbStep) -> Stop
-    ensures { λ r. ⌜ r ≡ stopAt step ⌝ }
+// The end of a run, at a step that asks for no transfer.
+fn ended(stop: Stop, stepped: UsbStepped, device: MockState) -> UsbTurned
+    ensures { λ r. ⌜ r ≡ endedBy stop (stepped .beside) (stepped .next) device ⌝ }
 {
-    match step {
-        UsbStep::Finished(finish) => return Stop::Finished(finish),
-        UsbStep::OutputTooShort => return Stop::OutputTooShort,
-        _ => return Stop::DataDiffers,
-    }
-}
-
-fn ended(stepped: UsbStepped, device: MockState) -> UsbTurned
-    ensures { λ r. ⌜ r ≡ endedBy (stopAt (stepped .step)) (stepped .beside) (stepped .next) device ⌝ }
-{
-    let step = stepped.step;
-    let turn = Turn::Ends(stop_at(step));
+    let turn = Turn::Ends(stop);
     let beside = stepped.beside;
     let operation = stepped.next;
     UsbTurned {
@@ -204,7 +193,8 @@ fn ended(stepped: UsbStepped, device: MockState) -> UsbTurned
     }
 }
 
-// One turn. Sectors are written from `source` and read into `room`: of the two the operation's kind has use for one.
+// One turn. Sectors are written from `source` and read into `room`: of the two the operation's kind has use for one, and `room` stays as it was where
+// that is `source`.
 pub fn take_turn(
     operation: UsbOperation,
     device: MockState,
@@ -212,7 +202,7 @@ pub fn take_turn(
     source: &[u8],
     room: &mut [u8],
 ) -> UsbTurned
-    ensures { λ r. ⌜ TurnMeets r (now (flash .exit)) (lentTo (operation .kind) (now (source .entry)) (now (room .exit))) (usbTurn (usbState operation device (now (flash .entry)) (lentTo (operation .kind) (now (source .entry)) (now (room .entry))))) ⌝ }
+    ensures { λ r. ⌜ LentMeets r (operation .kind) (now (source .entry)) (now (room .entry)) (now (flash .exit)) (now (room .exit)) (usbTurn (usbState operation device (now (flash .entry)) (lentTo (operation .kind) (now (source .entry)) (now (room .entry))))) ⌝ }
 {
     let mut out = [0u8; 31];
     let stepped = step_over(operation, source, room, &mut out);
@@ -223,6 +213,8 @@ pub fn take_turn(
         UsbStep::ReadInband(size) => return reply_turn(stepped.next, device, flash, size),
         UsbStep::ReadData(size) => return sectors_turn(stepped.next, device, flash, room, size),
         UsbStep::ReadStatus(_) => return reply_turn(stepped.next, device, flash, 13),
-        _ => return ended(stepped, device),
+        UsbStep::Finished(finish) => return ended(Stop::Finished(finish), stepped, device),
+        UsbStep::OutputTooShort => return ended(Stop::OutputTooShort, stepped, device),
+        UsbStep::DataDiffers => return ended(Stop::DataDiffers, stepped, device),
     }
 }

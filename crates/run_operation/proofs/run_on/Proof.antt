@@ -33,7 +33,7 @@ loop-again c =
     let h : l .steps < a .budget = omega (arith, l .inv .1) in
     let start = held (a .operation) (a .device) (now (a .flash)) (now (a .source)) (now (a .room)) in (
       going-on start (now (a .source)) (a .budget) (l .flash) (l .room) (l .now-operation) (l .now-device) (l .beside) (l .steps) (l .inv .0) h
-          (t .result) (t .last .1 .1 .0) (t .last .1 .1 .1 .1 .0) (t .ensures) (c .enum-told .given .1),
+          (t .result) (t .last .1 .1 .0) (t .last .1 .1 .1 .1 .0) (t .ensures .turns) (c .enum-told .given .1),
       omega arith,
       t .kept .1 .1 .0 ∙ l .inv .2,
       t .kept .1 .1 .1 .1 .0 ∙ l .inv .3,
@@ -55,7 +55,7 @@ returns-2 c =
     let h : l .steps < a .budget = omega (arith, l .inv .1) in
     let start = held (a .operation) (a .device) (now (a .flash)) (now (a .source)) (now (a .room)) in
     going-ends start (now (a .source)) (a .budget) (l .flash) (l .room) (l .now-operation) (l .now-device) (l .beside) (l .steps) (l .inv .0) h
-    (t .result) (t .last .1 .1 .0) (t .last .1 .1 .1 .1 .0) (t .ensures) (c .before .turn .given .0 .0) (c .before .turn .given .1)
+    (t .result) (t .last .1 .1 .0) (t .last .1 .1 .1 .1 .0) (t .ensures .turns) (c .before .turn .given .0 .0) (c .before .turn .given .1)
 
 pub run-on-spec : {M : Type 1} → statement M
 run-on-spec =
