@@ -7,6 +7,8 @@
 -- is the table's turn, `CallsThatEnd` which calls end the transaction, `NoTransactionLeft` that none is left after a run, `BetweenRuns` what holds
 -- between one run and the next, `FromStatus`, `FromStart` and `FromData` how a run goes on from there, `OperationEnds` what each operation ends in,
 -- `OperationTold` what any may be told.
+-- A run that ended in 28: `CheckedRuns` has that it and the run that resumes it are one run, if its checks pass again, `OperationResumed` and
+-- `UploadResumed` that they do, for the runs that are called.
 -- A deck: `BetweenBlocks` has what holds between one block and the next, `DeckRefusals` the refusals that the bench can meet, `BlockNumbers` each
 -- block's number and tag.
 pub mod CutIntoTransfers
@@ -35,6 +37,9 @@ pub mod FromStart
 pub mod FromData
 pub mod OperationEnds
 pub mod OperationTold
+pub mod CheckedRuns
+pub mod OperationResumed
+pub mod UploadResumed
 pub mod BetweenBlocks
 pub mod DeckRefusals
 pub mod BlockNumbers
