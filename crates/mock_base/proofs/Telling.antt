@@ -1,11 +1,12 @@
 -- The answers that the code makes tell what they should.
 use mathlib.Core.Path.{_≡_, refl, ap, sym, _∙_}
+use Prim.Native.Nat.{ℕ}
 use Rattle.promise.specs.Told.{Told, given, andThen}
 use Rattle.protocol_bytes.specs.Signature.{noSignature, signatureIn}
 use Rattle.protocol.specs.CommandMeets.{commandErrorNumber, commandErrorValues}
 use Rattle.protocol.specs.declared.CommandBlockParseError.the-variants.{InvalidSignature, UnknownCommandCode, UnknownFlags, InvalidLength}
 use Rattle.mock_base.specs.Told.{errorTold, errorValues, resultTold, innerSignature, signatureBeside, Answers}
-use Rattle.mock_base.specs.Flash.{sizeTold, sizeResult, sizeAnswer}
+use Rattle.mock_base.specs.Flash.{sizeTold, sizeDone}
 use Rattle.mock_base.specs.declared.error.MockTransportError.{MockTransportError}
 use Rattle.mock_base.specs.declared.error.MockTransportError.the-variants.{InvalidTransferLength, UnsupportedControl, InvalidReset, UnknownCommand, UnexpectedRead, UnexpectedWrite, CommandBlockError, OutOfRange, NoSlot, SlotFull, FlashSize, TooManySectors, StoreLength}
 use Rattle.mock_base.specs.declared.error.MockResult.the-variants.{Done, Refused}
@@ -41,8 +42,13 @@ pub answers-done : Answers (record { result = Done; signature = noSignature }) (
 unfolding resultTold signatureBeside
 answers-done = record { tells = refl; signature = refl }
 
--- the answer to a length tells what the length does
-pub size-answers : (size : FlashSectors) → Answers (sizeAnswer size) (andThen (sizeTold size) (λ sectors. given tt))
-unfolding sizeTold sizeResult andThen
-size-answers (size.Whole sectors) = answers-done
-size-answers (size.Refused error) = answers-error error (errorTold error noSignature) refl
+-- the answers to a length that is whole sectors, and to one that is not
+module _ (found : FlashSectors) where
+  pub size-done : (sectors : ℕ) → found ≡ size.Whole sectors → Answers (record { result = Done; signature = noSignature }) (sizeDone found)
+  unfolding sizeDone sizeTold andThen
+  size-done sectors e = rw e answers-done
+
+  pub size-refused : (error : MockTransportError) → found ≡ size.Refused error
+      → Answers (record { result = Refused error; signature = noSignature }) (sizeDone found)
+  unfolding sizeDone sizeTold andThen
+  size-refused error e = rw e (answers-error error (errorTold error noSignature) refl)

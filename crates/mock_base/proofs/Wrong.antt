@@ -1,16 +1,16 @@
 -- Programs that the contracts rule out, each at a named input: no proof can exist for them.
 use Prim.Native.Nat.{ℕ, _≤_}
 use mathlib.Core.Path.{_≡_, ap}
+use mathlib.Core.List.{List}
 use native.Mathlib.Omega.{arith}
-use Rattle.promise.specs.Told.{number}
+use Rattle.promise.specs.Told.{number, andThen}
 use Rattle.promise.specs.Rules.{orRefuse}
 use Rattle.protocol_bytes.specs.Signature.{noSignature}
-use Rattle.mock_base.specs.Told.{errorNumber, resultTold}
-use Rattle.mock_base.specs.Flash.{flashRules, flashSectors, sizeTold, sizeResult, sizeAnswer, fitsIn, rangeIn, rangeTold}
+use Rattle.mock_base.specs.Told.{errorNumber, resultTold, Answers}
+use Rattle.mock_base.specs.Flash.{flashRules, flashSectors, sizeTold, sizeDone, fitsIn, rangeIn, rangeTold}
 use Rattle.mock_base.specs.declared.error.MockTransportError.{MockTransportError}
 use Rattle.mock_base.specs.declared.error.MockTransportError.the-variants.{UnexpectedRead, UnexpectedWrite, StoreLength, TooManySectors}
 use Rattle.mock_base.specs.declared.error.MockResult.the-variants as result
-use Rattle.mock_base.specs.declared.error.MockAnswer.{MockAnswer}
 use Rattle.mock_base.specs.declared.range.FlashRange.{FlashRange}
 use Rattle.mock_base.specs.declared.range.FlashSectors.the-variants.{Whole, Refused}
 use Rattle.mock_base.specs.declared.range.RangeAnswer.{RangeAnswer}
@@ -69,17 +69,17 @@ pub more-sectors : (sectors : ℕ) → sizeTold (Whole sectors) ≡ flashSectors
 unfolding sizeTold flashSectors flashRules orRefuse
 more-sectors sectors e = let z : _≡_ {A = ℕ} 0 1 = cc in omega arith
 
--- `size_answer`: a refusal not told
-pub refusal-not-told : (error : MockTransportError) → record { result = result.Done; signature = noSignature } ≡ sizeAnswer (Refused error) → ⊥
-unfolding sizeResult
-refusal-not-told error e =
-    let told : result.Done ≡ result.Refused error = ap (λ (a : MockAnswer). a .result) e in let z : _≡_ {A = ℕ} 0 1 = cc in omega arith
+-- `size_answer`: a refusal not told, whatever stands beside it
+pub refusal-not-told : (error : MockTransportError) (signature : List ℕ)
+    → Answers (record { result = result.Done; signature = signature }) (sizeDone (Refused error)) → ⊥
+unfolding sizeDone sizeTold andThen resultTold
+refusal-not-told error signature meets = let z : _≡_ {A = ℕ} 0 1 = cc (meets .tells) in omega arith
 
--- a whole flash refused
-pub whole-flash-refused : (error : MockTransportError) (sectors : ℕ) → record { result = result.Refused error; signature = noSignature } ≡ sizeAnswer (Whole sectors) → ⊥
-unfolding sizeResult
-whole-flash-refused error sectors e =
-    let told : result.Refused error ≡ result.Done = ap (λ (a : MockAnswer). a .result) e in let z : _≡_ {A = ℕ} 0 1 = cc in omega arith
+-- a whole flash refused, whatever the refusal
+pub whole-flash-refused : (error : MockTransportError) (signature : List ℕ) (sectors : ℕ)
+    → Answers (record { result = result.Refused error; signature = signature }) (sizeDone (Whole sectors)) → ⊥
+unfolding sizeDone sizeTold andThen resultTold
+whole-flash-refused error signature sectors meets = let z : _≡_ {A = ℕ} 0 1 = cc (meets .tells) in omega arith
 
 -- `flash_range`: a range that ends where the flash ends refused (P14)
 pub range-off-by-one : OutOfRange ≡ rangeIn 128 128 0 → ⊥

@@ -3,14 +3,11 @@ use Prim.Native.Nat.{ℕ, _+_, _/_, _%_}
 use mathlib.Core.Bool.{Bool, not}
 use mathlib.Core.List.{List, [], _∷_}
 use lib.Dec.{eqb, leb, ltb}
-use Rattle.promise.specs.Told.{Told, given, refused}
+use Rattle.promise.specs.Told.{Told, given, refused, andThen}
 use Rattle.promise.specs.Rules.{Rule, rule, pick, unless}
 use Rattle.protocol_bytes.specs.Sector.{sectorSize}
 use Rattle.mock_base.specs.Told.{errorTold}
 use Rattle.protocol_bytes.specs.Signature.{noSignature}
-use Rattle.mock_base.specs.declared.error.MockAnswer.{MockAnswer}
-use Rattle.mock_base.specs.declared.error.MockResult.{MockResult}
-use Rattle.mock_base.specs.declared.error.MockResult.the-variants as result
 use Rattle.mock_base.specs.declared.range.FlashSectors.{FlashSectors}
 use Rattle.mock_base.specs.declared.range.FlashSectors.the-variants.{Whole, Refused}
 use Rattle.mock_base.specs.declared.range.FlashRange.{FlashRange}
@@ -32,13 +29,9 @@ unfoldable pub sizeTold : FlashSectors → Told ℕ
 sizeTold (Whole sectors) = given sectors
 sizeTold (Refused error) = errorTold error noSignature
 
--- the answer to a flash's length, as the code makes it
-unfoldable pub sizeResult : FlashSectors → MockResult
-sizeResult (Whole sectors) = result.Done
-sizeResult (Refused error) = result.Refused error
-
-abbrev pub sizeAnswer : FlashSectors → MockAnswer
-sizeAnswer size = record { result = sizeResult size; signature = noSignature }
+-- the same where nothing is made of the sectors: a call that is done, or 60 or 61
+unfoldable pub sizeDone : FlashSectors → Told Unit
+sizeDone size = andThen (sizeTold size) (λ sectors. given tt)
 
 -- a range fits exactly if address plus count is at most the flash's sectors
 unfoldable pub fitsIn : ℕ → ℕ → ℕ → Bool

@@ -5,7 +5,8 @@ use super::error::MockTransportError;
 use protocol_bytes::SECTOR_SIZE;
 ghost use mathlib.Core.Path.{_≡_};
 ghost use Rattle.promise.specs.Told.{number};
-ghost use Rattle.mock_base.specs.Flash.{flashSectors, sizeTold, sizeAnswer, rangeIn, rangeTold};
+ghost use Rattle.mock_base.specs.Told.{Answers};
+ghost use Rattle.mock_base.specs.Flash.{flashSectors, sizeTold, sizeDone, rangeIn, rangeTold};
 
 const MOST_FLASH_SECTORS: usize = 65536;
 
@@ -65,7 +66,7 @@ pub fn flash_sectors(length: usize) -> FlashSectors
 
 // Done, or 60 or 61.
 pub fn size_answer(size: FlashSectors) -> MockAnswer
-    ensures { λ r. ⌜ r ≡ sizeAnswer size ⌝ }
+    ensures { λ r. ⌜ Answers r (sizeDone size) ⌝ }
 {
     match size {
         FlashSectors::Whole(_) => MockAnswer {

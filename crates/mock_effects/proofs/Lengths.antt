@@ -3,19 +3,18 @@ use Prim.Native.Nat.{ℕ, _/_, _≤_}
 use mathlib.Core.Path.{_≡_, refl, ap, sym, _∙_}
 use mathlib.Core.List.{List}
 use native.Mathlib.Omega.{arith}
-use Rattle.promise.specs.Told.{given, refused}
+use Rattle.promise.specs.Told.{given, refused, andThen}
 use Rattle.protocol_bytes.specs.Sector.{sectorSize}
 use Rattle.protocol_bytes.specs.Signature.{noSignature}
-use Rattle.mock_base.specs.Told.{errorNumber, errorValues, errorTold}
-use Rattle.mock_base.specs.Flash.{mostFlashSectors, flashSectors, sizeTold, sizeResult, sizeAnswer}
+use Rattle.mock_base.specs.Told.{errorNumber, errorValues, errorTold, Answers}
+use Rattle.mock_base.specs.Flash.{mostFlashSectors, flashSectors, sizeTold, sizeDone}
+use Rattle.mock_base.specs.declared.error.MockAnswer.{MockAnswer}
 use Rattle.mock_base.specs.declared.error.MockTransportError.{MockTransportError}
 use Rattle.mock_base.specs.declared.range.FlashSectors.{FlashSectors}
 use Rattle.mock_base.specs.declared.range.FlashSectors.the-variants.{Whole, Refused}
-use Rattle.mock_base.proofs.Telling.{answers-error}
 use Rattle.mock_base.proofs.Fitting.{whole-sectors}
 use Rattle.mock_table.specs.declared.session.Session.{Session}
 use Rattle.mock_effects.specs.Steps.{Step, keeps, StepMeets}
-use Rattle.mock_effects.specs.declared.SessionStep.{SessionStep}
 
 -- a flash that is taken has so many sectors
 pub taken : (n sectors : ℕ) → flashSectors n ≡ given sectors → (n / sectorSize ≡ sectors) × (sectors ≤ mostFlashSectors)
@@ -31,10 +30,9 @@ module _ (size : FlashSectors) (n : ℕ) (told : sizeTold size ≡ flashSectors 
   short error e = sym told ∙ ap sizeTold e
 
   -- one that is refused keeps everything
-  pub kept : (s : Session) (lent : List ℕ) (error : MockTransportError) → size ≡ Refused error → {r : SessionStep} {t : Step}
-      → r ≡ record { answer = sizeAnswer size; session = s }
-      → ((number : ℕ) (values : List ℕ) → flashSectors n ≡ refused number values → t ≡ keeps s lent number values) → StepMeets r lent t
-  unfolding sizeResult
-  kept s lent error e f g =
-      rw (f, g (errorNumber error) (errorValues error noSignature) (short error e), e)
-      (record { tells = answers-error error (errorTold error noSignature) refl; next = refl; leaves = refl })
+  pub kept : (s : Session) (lent : List ℕ) (error : MockTransportError) → size ≡ Refused error → (answer : MockAnswer) → Answers answer (sizeDone size)
+      → {t : Step} → ((number : ℕ) (values : List ℕ) → flashSectors n ≡ refused number values → t ≡ keeps s lent number values)
+      → StepMeets (record { answer = answer; session = s }) lent t
+  unfolding sizeDone sizeTold andThen
+  kept s lent error e answer tells g =
+      rw (g (errorNumber error) (errorValues error noSignature) (short error e)) (record { tells = rw e at tells; next = refl; leaves = refl })

@@ -13,7 +13,7 @@ use Rattle.mock_base.proofs.Telling.{answers-error, answers-done}
 use Rattle.mock_base.specs.Told.{errorTold, errorValues, resultTold, innerSignature, signatureBeside}
 use Rattle.mock_base.specs.declared.error.MockTransportError.{MockTransportError}
 use Rattle.mock_table.specs.Turn.{Turn, refuses, done, OutcomeMeets}
-use Rattle.mock_table.specs.Code.{refusedWith, settled, blockResult, blockRefused}
+use Rattle.mock_table.specs.Code.{refusedWith, settled, blockRefused}
 use Rattle.mock_table.specs.Table.{startTurn}
 use Rattle.mock_table.specs.declared.session.CommandState.{CommandState}
 use Rattle.mock_table.specs.declared.session.LastReset.{LastReset}
@@ -33,9 +33,10 @@ done-as state last effect e f = rw (e, f) (record { tells = answers-done; next =
 
 -- 56: bytes that are no command
 pub block-refused : {r : Outcome} (parse : CommandParse) (told : Told CommandBlock) → CommandMeets parse told → (error : CommandBlockParseError)
-    → parse .answer ≡ Refused error → (last : LastReset) (sectors : ℕ) → r ≡ blockRefused last parse → OutcomeMeets r (startTurn told last sectors)
-unfolding startTurn refuses blockResult resultTold errorValues signatureBeside innerSignature commandTold signatureIn
+    → parse .answer ≡ Refused error → (last : LastReset) (sectors : ℕ) → r ≡ blockRefused last error (parse .signature)
+    → OutcomeMeets r (startTurn told last sectors)
+unfolding startTurn refuses resultTold errorValues signatureBeside innerSignature commandTold signatureIn
 block-refused parse told m error a last sectors e =
     let t : told ≡ refused (commandErrorNumber error) (commandErrorValues error (parse .signature)) = sym (m .tells) ∙ rw a refl in
     rw (e, t)
-    (record { tells = record { tells = rw a refl; signature = m .signature ∙ rw t refl }; next = refl; effect = refl })
+    (record { tells = record { tells = refl; signature = m .signature ∙ rw t refl }; next = refl; effect = refl })

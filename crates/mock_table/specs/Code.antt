@@ -1,13 +1,10 @@
 -- The outcomes as the code makes them, for the contracts of its private functions.
+use Prim.Native.Nat.{ℕ}
+use mathlib.Core.List.{List}
 use Rattle.protocol_bytes.specs.Signature.{noSignature}
-use Rattle.protocol.specs.declared.CommandParse.{CommandParse}
-use Rattle.protocol.specs.declared.CommandAnswer.{CommandAnswer}
-use Rattle.protocol.specs.declared.CommandAnswer.the-variants.{Block}
-use Rattle.protocol.specs.declared.CommandAnswer.the-variants as answer
+use Rattle.protocol.specs.declared.CommandBlockParseError.{CommandBlockParseError}
 use Rattle.mock_base.specs.declared.error.MockTransportError.{MockTransportError}
 use Rattle.mock_base.specs.declared.error.MockTransportError.the-variants.{CommandBlockError}
-use Rattle.mock_base.specs.declared.error.MockAnswer.{MockAnswer}
-use Rattle.mock_base.specs.declared.error.MockResult.{MockResult}
 use Rattle.mock_base.specs.declared.error.MockResult.the-variants.{Done, Refused}
 use Rattle.mock_table.specs.Turn.{session}
 use Rattle.mock_table.specs.declared.session.CommandState.{CommandState}
@@ -25,13 +22,7 @@ refusedWith reset error =
 abbrev pub settled : CommandState → LastReset → Effect → Outcome
 settled state reset effect = record { answer = record { result = Done; signature = noSignature }; session = session state reset; effect = effect }
 
--- what a parse is answered with
-unfoldable pub blockResult : CommandAnswer → MockResult
-blockResult (Block c) = Done
-blockResult (answer.Refused error) = Refused (CommandBlockError error)
-
-abbrev pub blockAnswer : CommandParse → MockAnswer
-blockAnswer parse = record { result = blockResult (parse .answer); signature = parse .signature }
-
-abbrev pub blockRefused : LastReset → CommandParse → Outcome
-blockRefused reset parse = record { answer = blockAnswer parse; session = session state.None reset; effect = Nothing }
+-- a refusal of a command's bytes, with the signature beside it
+abbrev pub blockRefused : LastReset → CommandBlockParseError → List ℕ → Outcome
+blockRefused reset error signature =
+    record { answer = record { result = Refused (CommandBlockError error); signature = signature }; session = session state.None reset; effect = Nothing }

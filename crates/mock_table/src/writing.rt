@@ -15,14 +15,14 @@ use mock_base::range::RangeAnswer;
 use mock_base::range::flash_range;
 use protocol::CommandAnswer;
 use protocol::CommandBlock;
-use protocol::CommandParse;
+use protocol::CommandBlockParseError;
 use protocol_codes::CommandCode;
 use protocol_codes::Direction;
 use protocol_codes::ResetOpcode;
 use protocol_codes::ResetRead;
 ghost use mathlib.Core.Path.{_≡_};
 ghost use Rattle.mock_table.specs.Turn.{isErase, OutcomeMeets};
-ghost use Rattle.mock_table.specs.Code.{blockAnswer, blockRefused};
+ghost use Rattle.mock_table.specs.Code.{blockRefused};
 ghost use Rattle.mock_table.specs.Table.{resetTurn, zeroLengthTurn, startTurn, writeIoTurn, writeTurn};
 ghost use Rattle.protocol.specs.CommandBytes.{readCommand};
 
@@ -66,29 +66,15 @@ fn handle_zero_length_command(reset: LastReset, command: CommandBlock, sectors: 
     refuse(reset, MockTransportError::UnknownCommand(code))
 }
 
-// What the device answers to a parse: done, or 56.
-fn block_answer(parse: CommandParse) -> MockAnswer
-    ensures { λ r. ⌜ r ≡ blockAnswer parse ⌝ }
+// 56: bytes that are no command. The signature's bytes stand beside the refusal.
+fn refuse_block(reset: LastReset, error: CommandBlockParseError, signature: [u8; 4]) -> Outcome
+    ensures { λ r. ⌜ r ≡ blockRefused reset error signature ⌝ }
 {
-    let answer = parse.answer;
-    let signature = parse.signature;
-    match answer {
-        CommandAnswer::Block(_) => MockAnswer {
-            result: MockResult::Done,
-            signature: signature,
-        },
-        CommandAnswer::Refused(error) => MockAnswer {
+    Outcome {
+        answer: MockAnswer {
             result: MockResult::Refused(MockTransportError::CommandBlockError(error)),
             signature: signature,
         },
-    }
-}
-
-fn refuse_block(reset: LastReset, parse: CommandParse) -> Outcome
-    ensures { λ r. ⌜ r ≡ blockRefused reset parse ⌝ }
-{
-    Outcome {
-        answer: block_answer(parse),
         session: Session {
             current_command: CommandState::None,
             last_reset: reset,
@@ -102,8 +88,10 @@ fn start_command(reset: LastReset, sectors: usize, data: &[u8]) -> Outcome
 {
     let parse = CommandBlock::from_bytes(data);
     let answer = parse.answer;
-    let CommandAnswer::Block(command) = answer else {
-        return refuse_block(reset, parse);
+    let signature = parse.signature;
+    let command = match answer {
+        CommandAnswer::Block(command) => command,
+        CommandAnswer::Refused(error) => return refuse_block(reset, error, signature),
     };
     if command.transfer_length == 0 {
         return handle_zero_length_command(reset, command, sectors);

@@ -9,13 +9,14 @@ use Rattle.promise.specs.Rules.{orRefuse}
 use Rattle.protocol_codes.specs.declared.Status.the-variants.{SUCCESS, FAILED}
 use Rattle.protocol_bytes.specs.Signature.{noSignature, signatureIn}
 use Rattle.protocol_status.specs.StatusBytes.{readStatus}
-use Rattle.protocol_status.specs.StatusMeets.{statusErrorTold, statusTold}
+use Rattle.protocol_status.specs.StatusMeets.{statusErrorTold, statusTold, StatusMeets}
 use Rattle.protocol_status.specs.Failure.{failureNumber, failureValues, failureTold, atFinish}
 use Rattle.protocol_status.specs.declared.report.CommandStatus.{CommandStatus}
 use Rattle.protocol_status.specs.declared.report.CommandStatusParseError.{CommandStatusParseError}
 use Rattle.protocol_status.specs.declared.report.CommandStatusParseError.the-variants.{InvalidSignature, InvalidLength, InvalidStatus}
 use Rattle.protocol_status.specs.declared.report.StatusAnswer.{StatusAnswer}
-use Rattle.protocol_status.specs.declared.report.StatusAnswer.the-variants.{Block}
+use Rattle.protocol_status.specs.declared.report.StatusAnswer.the-variants.{Block, Refused}
+use Rattle.protocol_status.specs.declared.report.StatusParse.{StatusParse}
 use Rattle.protocol_status.specs.declared.failure.UsbOperationError.{UsbOperationError}
 use Rattle.protocol_status.specs.declared.failure.UsbOperationError.the-variants.{TagMismatch, ReplyParseFailure, FailedStatus}
 use Rattle.protocol_reply.specs.Media.{storageTold, readStorage}
@@ -43,13 +44,21 @@ told-of : {A B : Type 0} (n m : ℕ) (vs ws : List ℕ) → _≡_ {A = Told A} (
 told-of n m vs ws e = cc
 
 -- bytes that are no status: 11, 12 or 13, with the signature that 6 told
-pub unread-meets : (error : CommandStatusParseError) (failure : UsbOperationError) (g : List ℕ) (rest : CommandStatus → Told Reply)
+unread-meets : (error : CommandStatusParseError) (failure : UsbOperationError) (g : List ℕ) (rest : CommandStatus → Told Reply)
     → ((h : List ℕ) → failureTold failure h ≡ atFinish (statusErrorTold error h)) → g ≡ signatureIn 6 (statusErrorTold error g)
     → FinishMeets (failedWith failure g) (andThen (atFinish (statusErrorTold error g)) rest)
 unfolding finishTold besideOf statusErrorTold atFinish andThen signatureIn
 unread-meets InvalidSignature failure g rest h e = record { tells = told-of _ _ _ _ (h g); beside = ap blank e }
 unread-meets (InvalidLength n) failure g rest h e = record { tells = told-of _ _ _ _ (h g); beside = ap blank e }
 unread-meets (InvalidStatus byte) failure g rest h e = record { tells = told-of _ _ _ _ (h g); beside = ap blank e }
+
+pub unread : (p : StatusParse) (told : Told CommandStatus) (error : CommandStatusParseError) (failure : UsbOperationError) → StatusMeets p told
+    → p .answer ≡ Refused error → ((h : List ℕ) → failureTold failure h ≡ atFinish (statusErrorTold error h)) → (rest : CommandStatus → Told Reply)
+    → FinishMeets (failedWith failure (p .signature)) (andThen (atFinish told) rest)
+unfolding statusTold
+unread p told error failure m a h rest =
+    let read : told ≡ statusErrorTold error (p .signature) = sym (m .tells) ∙ ap (λ (x : StatusAnswer). statusTold x (p .signature)) a in
+    rw read (unread-meets error failure (p .signature) rest h (m .signature ∙ ap (signatureIn 6) read))
 
 module _ (length residue : ℕ) where
   pub sectors-14 : length < residue → sectorReply length residue ≡ refused 14 []

@@ -2,8 +2,6 @@
 use Prim.Native.Nat.{ℕ}
 use mathlib.Core.List.{List}
 use Rattle.protocol_status.specs.declared.failure.UsbOperationError.{UsbOperationError}
-use Rattle.protocol_status.specs.declared.report.StatusAnswer.{StatusAnswer}
-use Rattle.protocol_status.specs.declared.report.StatusAnswer.the-variants.{Block, Refused}
 use Rattle.operation_finish.specs.declared.UsbReply.{UsbReply}
 use Rattle.operation_finish.specs.declared.FinishAnswer.the-variants.{Replied, Failed}
 use Rattle.operation_finish.specs.declared.Beside.{Beside}
@@ -15,8 +13,3 @@ failedWith error s = record { answer = Failed error; beside = blank s }
 
 abbrev pub repliedWith : UsbReply → Beside → Finished
 repliedWith reply b = record { answer = Replied reply; beside = b }
-
--- the status was not read
-unfoldable pub IsRefused : StatusAnswer → Type 0
-IsRefused (Block s) = ⊥
-IsRefused (Refused error) = Unit

@@ -15,14 +15,11 @@ use protocol_status::report::StatusAnswer;
 ghost use mathlib.Core.Path.{_≡_};
 ghost use Prim.Native.Nat.{_≤_};
 ghost use lib.ListN.{length, take};
-ghost use Rattle.promise.specs.Told.{Told, number, andThen};
-ghost use Rattle.protocol_bytes.specs.Signature.{noSignature, signatureIn};
-ghost use Rattle.protocol_status.specs.Failure.{atFinish};
-ghost use Rattle.protocol_status.specs.StatusMeets.{statusTold};
-ghost use Rattle.protocol_status.specs.declared.report.CommandStatus.{CommandStatus};
+ghost use Rattle.promise.specs.Told.{number};
+ghost use Rattle.protocol_bytes.specs.Signature.{noSignature};
 ghost use Rattle.operation_finish.specs.declared.Beside.{Beside};
-ghost use Rattle.operation_finish.specs.Reply.{Reply, finishTold, noChipInfo, noFlashId, noFlashInfo, noCapability, besides, blank, FinishMeets};
-ghost use Rattle.operation_finish.specs.Code.{failedWith, repliedWith, IsRefused};
+ghost use Rattle.operation_finish.specs.Reply.{finishTold, noChipInfo, noFlashId, noFlashInfo, noCapability, besides, blank, FinishMeets};
+ghost use Rattle.operation_finish.specs.Code.{failedWith, repliedWith};
 ghost use Rattle.operation_finish.specs.Finish.{storageReply, sectorReply, replyOf, finishes};
 
 // What an operation ends with: one for each kind of reply, and the two over sectors.
@@ -217,26 +214,18 @@ fn reply_of(kind: Kind, length: u32, residue: u32, inband: [u8; 16]) -> Finished
     }
 }
 
-// The answer where the bytes were no status, whatever was to be made of one.
-fn unread(answer: StatusAnswer, signature: [u8; 4]) -> Finished
-    requires { ⌜ IsRefused answer × (signature ≡ signatureIn 6 (statusTold answer signature)) ⌝ }
-    ensures { λ r. ⌜ ((rest : CommandStatus → Told Reply) → FinishMeets r (andThen (atFinish (statusTold answer signature)) rest)) ⌝ }
-{
-    match answer {
-        StatusAnswer::Refused(error) => failed(UsbOperationError::from_status(error), signature),
-        StatusAnswer::Block(_) => failed(UsbOperationError::InvalidStatusLength, signature),
-    }
-}
-
 // The end of an operation whose command had this tag and transfer length: its status stands in `status`, what it received in `inband`.
 pub fn finish_of(kind: Kind, tag: u32, length: u32, status: [u8; 13], inband: [u8; 16]) -> Finished
     ensures { λ r. ⌜ FinishMeets r (finishes kind tag length status inband) ⌝ }
 {
     let parse = CommandStatus::from_bytes(&status);
     let answer = parse.answer;
-    let StatusAnswer::Block(report) = answer else {
-        let signature = parse.signature;
-        return unread(answer, signature);
+    let signature = parse.signature;
+    let report = match answer {
+        StatusAnswer::Block(report) => report,
+        StatusAnswer::Refused(error) => {
+            return failed(UsbOperationError::from_status(error), signature);
+        }
     };
     let outcome = report.status;
     let Status::SUCCESS = outcome else {

@@ -1,17 +1,22 @@
 -- Reading a status, by cases of the rule.
 use Prim.Native.Nat.{ℕ, _<_, _≤_}
-use mathlib.Core.Path.{_≡_, refl}
-use mathlib.Core.Bool.{true, false}
+use mathlib.Core.Path.{_≡_, refl, sym, _∙_}
+use mathlib.Core.Logic.{_⊎_, inl, inr}
+use mathlib.Core.Bool.{true, false, not}
 use mathlib.Core.List.{List, [], _∷_}
+use native.Mathlib.Omega.{arith}
 use borrow.Author.Tests.{lt-ltb, le-ltb}
+use lib.Dec.{ltb}
 use lib.ListN.{length, getD, take}
-use Rattle.promise.specs.Told.{given, refused, andThen}
+use Rattle.promise.specs.Told.{Told, given, refused, andThen}
 use Rattle.promise.specs.Rules.{orRefuse}
+use Rattle.promise.proofs.Outcome.{by-test}
 use Rattle.protocol_codes.specs.Reading.{statusOf}
 use Rattle.protocol_codes.specs.Numbers.{statusNumber, statuses}
 use Rattle.protocol_codes.specs.declared.Status.{Status}
 use Rattle.protocol_codes.proofs.Reading.{known-refused}
 use Rattle.protocol_bytes.specs.Signature.{usbs, same, signatureIn}
+use Rattle.protocol_status.specs.declared.report.CommandStatus.{CommandStatus}
 use Rattle.protocol_status.specs.declared.report.StatusParse.{StatusParse}
 use Rattle.protocol_status.specs.declared.report.StatusAnswer.the-variants.{Block, Refused}
 use Rattle.protocol_status.specs.declared.report.CommandStatusParseError.the-variants.{InvalidSignature, InvalidLength, InvalidStatus}
@@ -53,3 +58,23 @@ module _ (bytes : List ℕ) where
         → r ≡ parsed (Block (reportOf bytes status)) → StatusMeets r (readStatus bytes)
     unfolding statusTold signatureIn andThen
     meets-given status enough own here e = rw (read-signed enough own, here, e) (record { tells = refl; signature = refl })
+
+-- told by no refusal but 5, 6 and 7
+abbrev ThreeAlone : Told CommandStatus → Type 0
+ThreeAlone told = (n : ℕ) (values : List ℕ) → told ≡ refused n values → (n ≡ 5) ⊎ ((n ≡ 6) ⊎ (n ≡ 7))
+
+by-status : (bytes : List ℕ) (t : Told Status) → t ≡ statusOf (getD bytes 12 0) → ThreeAlone (andThen t (λ (status : Status). given (reportOf bytes status)))
+unfolding andThen statusOf
+by-status bytes (given status) e n values f = let z : _≡_ {A = ℕ} 0 1 = cc in absurd (omega arith)
+by-status bytes (refused m told) e n values f =
+    let known : refused m told ≡ refused 7 (getD bytes 12 0 ∷ []) = e ∙ known-refused 7 statusNumber statuses (getD bytes 12 0) m told (sym e) in
+    let seven : n ≡ 7 = cc in
+    inr (inr seven)
+
+-- the numbers that `atFinish` has a number for are all there are
+pub parse-refusals : (bytes : List ℕ) (n : ℕ) (values : List ℕ) → readStatus bytes ≡ refused n values → (n ≡ 5) ⊎ ((n ≡ 6) ⊎ (n ≡ 7))
+unfolding readStatus orRefuse
+parse-refusals bytes =
+    by-test ThreeAlone (ltb (length bytes) 13) {a = refused 5 (length bytes ∷ [])} (λ short n values f. inl cc)
+    (λ long. by-test ThreeAlone (not (same (take 4 bytes) usbs)) {a = refused 6 (take 4 bytes)} (λ other n values f. inr (inl cc))
+    (λ own. by-status bytes (statusOf (getD bytes 12 0)) refl))

@@ -27,7 +27,8 @@ failureValues FailedStatus signature = []
 abbrev pub failureTold : {A : Type 0} → UsbOperationError → List ℕ → Told A
 failureTold error signature = refused (failureNumber error) (failureValues error signature)
 
--- 11, 12, 13 at a finish, from 6, 7, 5
+-- 11, 12, 13 at a finish, from 6, 7, 5; reading a status is refused by no other number (`parse-refusals`), and such a refusal would stay as it is
 unfoldable pub atFinish : {A : Type 0} → Told A → Told A
 atFinish (given s) = given s
-atFinish (refused n values) = pick (eqb n 6) (refused 11 values) (pick (eqb n 7) (refused 12 values) (refused 13 []))
+atFinish (refused n values) =
+    pick (eqb n 6) (refused 11 values) (pick (eqb n 7) (refused 12 values) (pick (eqb n 5) (refused 13 []) (refused n values)))

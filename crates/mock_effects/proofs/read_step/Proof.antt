@@ -1,6 +1,6 @@
 -- 60 and 61 first, keeping everything; then the outcome that the table has, whose effect fits the flash, is applied.
 use Prim.Native.Nat.{ℕ, _/_}
-use mathlib.Core.Path.{refl, ap, _∙_}
+use mathlib.Core.Path.{ap, _∙_}
 use native.Mathlib.Omega.{arith}
 use denote.Ref.{now}
 use lib.ListN.{length}
@@ -22,7 +22,7 @@ returns c =
     let s = c .before .before .before .before .before .before in
     let f = c .before .before .before .flash-sectors in
     kept (f .result) (length (now (s .args .flash))) (f .ensures) (s .args .session) (now (s .args .«data»)) (c .before .enum-told .given .0 .0)
-    (c .before .enum-told .given .1) (rw (c .size-answer .ensures) refl)
+    (c .before .enum-told .given .1) (c .size-answer .result) (c .size-answer .ensures)
     (λ number values h. ap (λ (t : Told ℕ). readStepOf t (s .args .session) (s .args .config) (now (s .args .flash)) (now (s .args .«data»))) h)
 
 apply-to-buffer-requires : tie.Need-apply-to-buffer-requires

@@ -1,50 +1,40 @@
 -- Each refusal is the first broken rule, in the order of the definition.
-use mathlib.Core.Path.{_≡_, ap, sym, subst, _∙_}
+use mathlib.Core.Path.{_≡_}
 use borrow.Author.Needs.{needs}
-use Rattle.promise.specs.Told.{Told, given, andThen}
-use Rattle.protocol_bytes.specs.Signature.{signatureIn}
-use Rattle.protocol_status.specs.Failure.{atFinish}
+use Rattle.promise.specs.Told.{given}
 use Rattle.protocol_status.specs.StatusBytes.{readStatus}
-use Rattle.protocol_status.specs.declared.report.CommandStatus.{CommandStatus}
-use Rattle.operation_finish.specs.Reply.{FinishMeets}
-use Rattle.operation_finish.specs.Code.{IsRefused}
 use Rattle.operation_finish.specs.Finish.{judged, finishes}
-use Rattle.operation_finish.proofs.Cases.{block-read, refused-15, refused-10, finish-15, finish-10, finish-reply}
+use Rattle.operation_finish.proofs.Cases.{unread, block-read, refused-15, refused-10, finish-15, finish-10, finish-reply}
 use Rattle.operation_finish.proofs.finish_of.Statement.{statement}
 use Rattle.operation_finish.proofs.finish_of.Tie as tie
-
-unread-requires : tie.Need-unread-requires
-unfolding IsRefused
-unread-requires c κs =
-    let p = c .before .before .before .from-bytes in
-    (rw (c .before .enum-told .given .1) tt, p .ensures .signature ∙ ap (signatureIn 6) (sym (p .ensures .tells)))
 
 returns : tie.Need-returns
 unfolding finishes
 returns c =
-    let a = c .before .before .before .before .before .before .args in
-    let rest = judged (a .kind) (a .tag) (a .length) (a .inband) in
-    subst (λ (t : Told CommandStatus). FinishMeets (c .unread .result) (andThen (atFinish t) rest))
-    (c .before .before .before .before .from-bytes .ensures .tells) (c .unread .ensures rest)
+    let s = c .before .before .before .before .before .before in
+    let a = s .before .before .args in
+    let e = c .before .before .before .answer2 .given in
+    rw (c .failed .ensures)
+    (unread (s .from-bytes .result) (readStatus (a .t4)) (e .0 .0) (c .before .from-status .result) (s .from-bytes .ensures) (e .1)
+    (c .before .from-status .ensures) (judged (a .kind) (a .tag) (a .length) (a .inband)))
 
 -- the status that was read
-read : (c : tie.After-known-told) → readStatus (c .before .before .before .before .before .args .t4) ≡ given (c .before .answer .given .0 .0)
-read c = block-read _ _ _ _ (c .before .before .before .from-bytes .ensures .tells) (c .before .answer .given .1)
+read : (c : tie.After-known-told) → readStatus (c .before .before .before .before .before .before .args .t4) ≡ given (c .before .answer .given .0 .0)
+read c = block-read _ _ _ _ (c .before .before .before .before .from-bytes .ensures .tells) (c .before .answer .given .1)
 
 returns-2 : tie.Need-returns-2
 returns-2 c =
-    let k = c .before .before .before in
-    rw (c .failed .ensures, finish-15 _ _ _ _ _ _ (read k) (c .before .enum-told3 .given .1)) refused-15
+    rw (c .failed2 .ensures, finish-15 _ _ _ _ _ _ (read (c .before .before .before)) (c .before .enum-told2 .given .1)) refused-15
 
 returns-3 : tie.Need-returns-3
 returns-3 c =
     let k = c .before .before .before .before .before in
-    rw (c .failed2 .ensures, finish-10 _ _ _ _ _ _ (read k) (c .before .before .before .enum-told2 .given .1) (c .before .if1 .taken)) refused-10
+    rw (c .failed3 .ensures, finish-10 _ _ _ _ _ _ (read k) (c .before .before .before .enum-told .given .1) (c .before .if1 .taken)) refused-10
 
 returns-4 : tie.Need-returns-4
 returns-4 c =
     let k = c .before .before .before .before .before in
-    rw (finish-reply _ _ _ _ _ _ (read k) (c .before .before .before .enum-told2 .given .1) (c .before .if1 .left)) (c .reply-of .ensures)
+    rw (finish-reply _ _ _ _ _ _ (read k) (c .before .before .before .enum-told .given .1) (c .before .if1 .left)) (c .reply-of .ensures)
 
 pub finish-of-spec : {M : Type 1} → statement M
 finish-of-spec =
@@ -54,7 +44,8 @@ finish-of-spec =
     (λ c κs. search needs)
     (λ c. search needs)
     (λ c. search needs)
-    unread-requires
+    (λ c κs. search needs)
+    (λ c κs. search needs)
     returns
     (λ c. search needs)
     (λ c. search needs)

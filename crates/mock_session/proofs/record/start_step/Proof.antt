@@ -1,27 +1,25 @@
 -- The length of the flash tells which: 60 and 61 keep the record, a whole flash makes it anew.
 use Prim.Native.Nat.{ℕ}
-use mathlib.Core.Path.{ap, sym, refl}
+use mathlib.Core.Path.{ap, refl}
 use mathlib.Core.List.{[]}
 use denote.Ref.{now}
 use lib.ListN.{length}
 use borrow.Author.Needs.{needs}
 use Rattle.promise.specs.Told.{Told}
-use Rattle.mock_base.proofs.Telling.{answers-done}
-use Rattle.mock_base.specs.declared.range.FlashSectors.{FlashSectors}
-use Rattle.mock_base.specs.Flash.{sizeResult, sizeAnswer}
+use Rattle.mock_base.proofs.Telling.{answers-done, size-refused}
 use Rattle.mock_effects.proofs.Lengths.{whole, kept}
 use Rattle.mock_session.specs.Start.{startStep, startStepOf}
 use Rattle.mock_session.proofs.record.start_step.Statement.{statement}
 use Rattle.mock_session.proofs.record.start_step.Tie as tie
 
 returns : tie.Need-returns
-unfolding startStep startStepOf sizeResult
+unfolding startStep startStepOf
 returns c =
     let a = c .before .before .before .before .before .before .args in
     let f = c .before .before .before .flash-sectors in
     let e = c .before .size .given .1 in
     kept (f .result) (length (now (a .flash))) (f .ensures) (a .session) [] (c .before .size .given .0 .0) e
-    (ap (λ (z : FlashSectors). record { answer = sizeAnswer z; session = a .session }) (sym e))
+    _ (size-refused (f .result) (c .before .size .given .0 .0) e)
     (λ number values h. ap (λ (t : Told ℕ). startStepOf t (a .session)) h)
 
 returns-2 : tie.Need-returns-2

@@ -18,23 +18,24 @@ use Rattle.mock_table.proofs.writing.start_command.Tie as tie
 
 returns : tie.Need-returns
 returns c =
-    let s = c .before .before .before in
+    let s = c .before .before .before .before .before in
     let a = s .before .before .args in
-    block-refused (s .from-bytes .result) (readCommand (now (a .«data»))) (s .from-bytes .ensures) (c .before .enum-told .given .0 .0)
-    (c .before .enum-told .given .1) (a .reset) (a .sectors) (c .refuse-block .ensures)
+    let e = c .before .before .answer2 .given in
+    block-refused (s .from-bytes .result) (readCommand (now (a .«data»))) (s .from-bytes .ensures) (e .0 .0) (e .1) (a .reset) (a .sectors)
+    (c .refuse-block .ensures)
 
 -- the bytes are a command
-read-as : (c : tie.After-answer) → readCommand (now (c .before .before .before .before .args .«data»)) ≡ given (c .answer .given .0 .0)
+read-as : (c : tie.After-answer) → readCommand (now (c .before .before .before .before .before .args .«data»)) ≡ given (c .answer .given .0 .0)
 unfolding commandTold
 read-as c =
-    let f = c .before .before .from-bytes in
+    let f = c .before .before .before .from-bytes in
     sym (f .ensures .tells) ∙ ap (λ (x : CommandAnswer). commandTold x (f .result .signature)) (c .answer .given .1)
 
 returns-2 : tie.Need-returns-2
 unfolding startTurn
 returns-2 c =
     let s = c .before .before .before .before in
-    let a = s .before .before .before .before .args in
+    let a = s .before .before .before .before .before .args in
     subst (λ (t : Told CommandBlock). OutcomeMeets (c .handle-zero-length-command .result) (startTurn t (a .reset) (a .sectors))) (sym (read-as s))
     (rw (eq-eqb (s .answer .given .0 .0 .«transfer_length») 0 (c .before .if1 .taken)) (c .handle-zero-length-command .ensures))
 
@@ -42,7 +43,7 @@ returns-3 : tie.Need-returns-3
 unfolding startTurn
 returns-3 c =
     let s = c .before .before .before .before in
-    let a = s .before .before .before .before .args in
+    let a = s .before .before .before .before .before .args in
     let command = s .answer .given .0 .0 in
     done-as (IO command) (a .reset) Nothing (c .settle .ensures)
     (ap (λ (t : Told CommandBlock). startTurn t (a .reset) (a .sectors)) (read-as s)
