@@ -1,12 +1,14 @@
 -- The first place that passes a test: looked for from place i on, and after one element was changed.
 use Prim.Native.Nat.{ℕ, zero, suc, _+_, _≤_, _<_}
-use mathlib.Core.Path.{_≡_, refl, ap}
+use mathlib.Core.Path.{_≡_, refl, ap, sym, _∙_}
 use mathlib.Core.Bool.{Bool, true, false}
 use mathlib.Core.List.{List, [], _∷_}
 use native.Mathlib.Numerals.{add-one}
 use native.Mathlib.Omega.{arith}
+use lib.Dec.{ltb}
 use lib.ListN.{length, drop, getD, set}
 use lib.Seq.{drop-cons}
+use borrow.Author.Tests.{ltb-true, ltb-false}
 use Rattle.promise.specs.Rules.{pick}
 use Rattle.promise.proofs.Outcome.{by-test, on-test}
 use Rattle.mock_areas.specs.Slots.{firstAt}
@@ -44,3 +46,28 @@ module _ {A : Type 0} (test : A → Bool) (d : A) where
   first-kept [] i a h e = refl
   first-kept (x ∷ xs) zero a h e = rw (h, e)
   first-kept (x ∷ xs) (suc i) a h e = ap (λ (n : ℕ). pick (test x) zero (suc n)) (first-kept xs i a h e)
+
+  -- before what is found none passes
+  pub before-fails : (xs : List A) (i : ℕ) → i < firstAt test xs → test (getD xs i d) ≡ false
+  unfolding firstAt
+  before-fails [] i h = absurd (omega arith)
+  before-fails (x ∷ xs) zero h = on-test (test x) (λ t. let z : 0 < 0 = rw t at h in absurd (omega arith)) (λ t. t)
+  before-fails (x ∷ xs) (suc i) h =
+      on-test (test x) (λ t. let z : suc i < 0 = rw t at h in absurd (omega arith))
+      (λ t. let k : suc i < suc (firstAt test xs) = rw t at h in before-fails xs i (omega arith))
+
+  -- where all before place k fail it is not found before, and where k passes not behind
+  pub not-before : (xs : List A) (k : ℕ) → k ≤ length xs → ((i : ℕ) → i < k → test (getD xs i d) ≡ false) → k ≤ firstAt test xs
+  not-before xs k long fails =
+      on-test (ltb (firstAt test xs) k)
+      (λ t. let l = ltb-true (firstAt test xs) k t in
+      let z : true ≡ false = sym (found-passes xs (omega arith)) ∙ fails (firstAt test xs) l in
+      let n : _≡_ {A = ℕ} 0 1 = cc in absurd (omega arith))
+      (λ t. ltb-false (firstAt test xs) k t)
+
+  pub not-behind : (xs : List A) (k : ℕ) → test (getD xs k d) ≡ true → firstAt test xs ≤ k
+  not-behind xs k passes =
+      on-test (ltb k (firstAt test xs))
+      (λ t. let z : true ≡ false = sym passes ∙ before-fails xs k (ltb-true k (firstAt test xs) t) in
+      let n : _≡_ {A = ℕ} 0 1 = cc in absurd (omega arith))
+      (λ t. ltb-false k (firstAt test xs) t)

@@ -8,7 +8,7 @@ use lib.ListN.{length, set}
 use Rattle.promise.specs.Told.{Told, given, refused}
 use Rattle.promise.specs.Rules.{Rule, rule, orRefuse}
 use Rattle.promise.specs.Over.{over}
-use Rattle.mock_areas.specs.Slots.{slotCount, slotSize, place}
+use Rattle.mock_areas.specs.Slots.{slotCount, slotSize, slotAt, place}
 use Rattle.mock_areas.specs.declared.Areas.{Areas}
 use Rattle.mock_areas.specs.declared.Place.{Place}
 use Rattle.mock_areas.specs.declared.AreaStep.{AreaStep}
@@ -56,3 +56,8 @@ pub record AppendMeets (r : AreaStep) (after : List ℕ) (a : Appending) : Type 
   pub tells : areaTold (r .answer) ≡ a .told
   pub next : r .areas ≡ a .next
   pub leaves : after ≡ a .leaves
+
+-- slot k is held by the number from then on, with so many bytes, and every other slot is as it was
+pub record TakesSlot (k number used : ℕ) (before after : Areas) : Type 0 where
+  pub own : slotAt after k ≡ record { held = true; number = number; used = used }
+  pub others : (i : ℕ) → (i ≡ k → ⊥) → slotAt after i ≡ slotAt before i

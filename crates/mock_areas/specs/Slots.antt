@@ -1,6 +1,7 @@
 -- The slots of a store, and the slot of an area.
-use Prim.Native.Nat.{ℕ, zero, suc, _*_, _/_}
-use mathlib.Core.Bool.{Bool, false, not}
+use Prim.Native.Nat.{ℕ, zero, suc, _*_, _/_, _<_}
+use mathlib.Core.Path.{_≡_}
+use mathlib.Core.Bool.{Bool, true, false, not}
 use mathlib.Core.List.{List, [], _∷_}
 use lib.Dec.{eqb, ltb}
 use lib.ListN.{getD, replicate}
@@ -26,6 +27,22 @@ freeSlot = record { held = false; number = 0; used = 0 }
 -- at first every slot is free
 unfoldable pub freshAreas : Areas
 freshAreas = record { slots = replicate slotCount freeSlot }
+
+-- slot i of a record
+abbrev pub slotAt : Areas → ℕ → Area
+slotAt areas i = getD (areas .slots) i freeSlot
+
+-- no slot is held by the number; all eight are held; k is the lowest slot that is free
+abbrev pub NotAmong : ℕ → Areas → Type 0
+NotAmong number areas = (i : ℕ) → i < slotCount → slotAt areas i .held ≡ true → slotAt areas i .number ≡ number → ⊥
+
+abbrev pub AllHeld : Areas → Type 0
+AllHeld areas = (i : ℕ) → i < slotCount → slotAt areas i .held ≡ true
+
+pub record LowestFree (k : ℕ) (areas : Areas) : Type 0 where
+  pub slot : k < slotCount
+  pub free : slotAt areas k .held ≡ false
+  pub below : (i : ℕ) → i < k → slotAt areas i .held ≡ true
 
 -- whether a slot is free, or held by this number
 unfoldable pub passes : Wanted → Area → Bool
