@@ -23,22 +23,30 @@ use Rattle.theorems.proofs.CutIntoTransfers.{cut-many, cut-sizes, cut-j
 use Rattle.theorems.proofs.BehindTheImage.{ending, upload-ending, length-ending}
 use Rattle.theorems.proofs.StepsToFinish.{Sends, enough, needed}
 use Rattle.theorems.proofs.WholeSends.{image-sends}
-use Rattle.theorems.proofs.PartsSend.{left, parts-end}
+use Rattle.theorems.proofs.PartsSend.{Open, left, due, parts-end}
 
--- DEMAND 3. An image of at most 4,294,967,295 bytes, cut into parts in any way, empty ones too: handed over in order to a fresh upload, with an
--- output of a block at least and re-handing what was not taken, then closed and stepped to the finish. No call is refused, the driving ends, and the
--- transfers are those of the upload's bytes.
+-- what a fresh upload has to send: the upload's bytes, cut into transfers
+pub start-due : (area : ℕ) (checked : Bool) (image : List ℕ) → due (fresh area checked) image ≡ transfersOf area checked image
+unfolding transfersOf left
+start-due area checked image =
+    ap (λ (l : List ℕ). map (transfer area) (cut l))
+    (ap (λ (k : ℕ). image ++ ending checked (register checked start image) k) (zero-add (length image)) ∙ sym (upload-ending checked image))
+
+pub fresh-open : (area : ℕ) (checked : Bool) → Open (fresh area checked)
+fresh-open area checked = record { writes-on = refl; block-long = length-replicate {A = ℕ} 4096 0 }
+
+-- DEMAND 3, for one caller, who cuts an image of at most 4,294,967,295 bytes into parts in any way, empty ones too: he hands them over in order to a fresh
+-- upload, with an output of a block at least, hands over again what was not taken, then closes and steps to the finish. No call is refused, the driving
+-- ends, and the transfers are those of the upload's bytes. `AnyCaller` has it for every caller.
 pub any-cut : (area : ℕ) (checked : Bool) (image : List ℕ) (parts : List (List ℕ)) (out : List ℕ)
     → flatten parts ≡ image → length image ≤ longest → blockSize ≤ length out
     → driveParts area checked parts out ≡ ended (transfersOf area checked image)
-unfolding driveParts transfersOf left
+unfolding driveParts
 any-cut area checked image parts out e l h =
     let n : 0 + length (flatten parts) ≤ longest = omega (arith, ap length e) in
-    parts-end parts (fresh area checked) out (record { writes-on = refl; block-long = length-replicate {A = ℕ} 4096 0 }) h n
-    ∙ ap (λ (l : List ℕ). ended (map (transfer area) (cut l)))
-    (ap (λ (l : List ℕ). l ++ ending checked (register checked start l) (0 + length l)) e
-    ∙ ap (λ (k : ℕ). image ++ ending checked (register checked start image) k) (zero-add (length image))
-    ∙ sym (upload-ending checked image))
+    parts-end parts (fresh area checked) out (fresh-open area checked) h n
+    ∙ ap (λ (l : List ℕ). ended (due (fresh area checked) l)) e
+    ∙ ap ended (start-due area checked image)
 
 pub upload-length : (checked : Bool) (image : List ℕ) → length (uploadBytes checked image) ≡ total (length image)
 unfolding total

@@ -1,6 +1,7 @@
 -- An image handed over to its end: `CutIntoTransfers` has how its bytes are cut, `BehindTheImage` what follows it, `StepsToFinish` how a record is
 -- stepped to its finish, `ClosingSends`, `WholeSends` and `PartsSend` what a record has still to send, `AnyCut` that any cut gives the same
--- transfers, `UploadExamples` examples P3 to P8 of the rules, `EveryStep` what holds at every record.
+-- transfers, `OneCall` what one call takes of what is to be sent, `AnyCaller` that any caller sees these transfers, `CallsAnswered` that he can go on,
+-- `DriverCalls` that who hands over lists of parts is one of them, `UploadExamples` examples P3 to P8 of the rules, `EveryStep` what holds at every record.
 -- A run of an upload: `UploadTransfers` has its control writes, `UploadSteps` how many steps it takes, `UploadRefusals` which refusals it can meet,
 -- `TwoWritesAreOne` that two writes to an area are one, `UploadLands` what the upload leaves, `UploadKeeps` what it keeps.
 -- A run of an operation: `OperationSteps` has how many steps it takes, `SectorsLand` what it leaves of flash and data, `CallsByTurn` that a bulk call
@@ -18,6 +19,10 @@ pub mod ClosingSends
 pub mod WholeSends
 pub mod PartsSend
 pub mod AnyCut
+pub mod OneCall
+pub mod AnyCaller
+pub mod CallsAnswered
+pub mod DriverCalls
 pub mod UploadExamples
 pub mod EveryStep
 pub mod UploadTransfers

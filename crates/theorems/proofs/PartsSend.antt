@@ -1,6 +1,6 @@
 -- What a part-wise upload has still to send, whatever it has taken: the bytes that wait, those that come, and what follows the image.
 use Prim.Native.Nat.{ℕ, zero, suc, _+_, _-_, _%_, _<_, _≤_, min}
-use mathlib.Core.Path.{_≡_, refl, ap, sym, _∙_}
+use mathlib.Core.Path.{_≡_, refl, ap, sym, _∙_, subst}
 use mathlib.Core.List.{List, [], _∷_, _++_, map, flatten, append-assoc}
 use native.Mathlib.Omega.{arith}
 use native.Mathlib.Decide.{decLt}
@@ -22,7 +22,7 @@ use Rattle.maskrom.proofs.Cases.{part-takes, takes-full, takes-some}
 use Rattle.theorems.specs.PartDriver.{Transfer, transfer, Drive, ended, sending, orAgain, onPart, hand, handAll, stepThrough}
 use Rattle.theorems.proofs.CutIntoTransfers.{cut-block, cut-many}
 use Rattle.theorems.proofs.BehindTheImage.{register-empty, ending, regroup, ending-same, ending-few}
-use Rattle.theorems.proofs.StepsToFinish.{enough, front-room}
+use Rattle.theorems.proofs.StepsToFinish.{Sends, enough, front-room}
 use Rattle.theorems.proofs.ClosingSends.{close-sends}
 
 -- not closed yet, with a whole block
@@ -38,7 +38,7 @@ abbrev pub due : MaskRomOperation → List ℕ → List Transfer
 due m xs = map (transfer (m .area)) (cut (left m xs))
 
 module _ (m : MaskRomOperation) (o : Open m) where
-  held-long : length (held m) ≡ waiting m
+  pub held-long : length (held m) ≡ waiting m
   held-long = length-take-le (waiting m) (m .block) (omega (arith, o .block-long))
 
   module _ (ys zs : List ℕ) where
@@ -50,7 +50,7 @@ module _ (m : MaskRomOperation) (o : Open m) where
         let r = zs ++ ending (m .checked) (register (m .checked) (register (m .checked) (m .crc) ys) zs) (m .taken + length ys + length zs) in
         rw (n, regroup (m .checked) (m .crc) (m .taken + length ys + length zs) ys zs) (sym (append-assoc (held m) ys r))
 
-    still-open : waiting m + length ys ≤ 4096 → Open (holding m ys)
+    pub still-open : waiting m + length ys ≤ 4096 → Open (holding m ys)
     still-open h = record {
       writes-on = o .writes-on;
       block-long = simp (length-append, length-drop) (omega (arith, held-long, o .block-long));
@@ -71,11 +71,11 @@ module _ (m : MaskRomOperation) (o : Open m) where
     abbrev rest : List ℕ
     rest = zs ++ ending (m .checked) (register (m .checked) (register (m .checked) (m .crc) ys) zs) (m .taken + length ys + length zs)
 
-    due-some : waiting m + length ys < 4096 → due m (ys ++ zs) ≡ due (holding m ys) zs
+    pub due-some : waiting m + length ys < 4096 → due m (ys ++ zs) ≡ due (holding m ys) zs
     unfolding left
     due-some h = ap (λ (l : List ℕ). map (transfer (m .area)) (cut l)) (left-taken ∙ ap (λ (l : List ℕ). l ++ rest) (sym (held-some h)))
 
-    due-full : waiting m + length ys ≡ 4096 → due m (ys ++ zs) ≡ transfer (m .area) (held m ++ ys) ∷ due (holding m ys) zs
+    pub due-full : waiting m + length ys ≡ 4096 → due m (ys ++ zs) ≡ transfer (m .area) (held m ++ ys) ∷ due (holding m ys) zs
     unfolding left
     due-full e =
         ap (map (transfer (m .area)))
@@ -164,26 +164,38 @@ module _ (go : MaskRomOperation → List ℕ → Drive) (qs : List ℕ)
   hand-ends (suc k) m xs out o h l f = hand-once k (λ m′ zs now. hand-ends k m′ zs now) m xs out o h l f
 
 -- nothing more is to come
-close-ends : (m : MaskRomOperation) (out : List ℕ) → Open m → 4096 ≤ length out → stepThrough closeStep 3 m out ≡ ended (due m [])
-unfolding left
-close-ends m out o h =
-    let short : length (held m) < 4096 = omega (arith, held-long m o) in
-    let same : ending (m .checked) (m .crc) (length (held m)) ≡ ending (m .checked) (register (m .checked) (m .crc) []) (m .taken + 0) =
-    ending-same (m .checked) (m .crc) (length (held m)) (m .taken + 0) (omega (arith, held-long m o))
-    ∙ ap (λ (c : ℕ). ending (m .checked) c (m .taken + 0)) (sym (register-empty (m .checked) (m .crc))) in
-    let bs = held m ++ ending (m .checked) (m .crc) (length (held m)) in
-    let few : length (map (transfer (m .area)) (cut bs)) < 3 =
-    omega
-    (arith, length-map (cut bs) (transfer (m .area)), cut-many bs, length-append (held m) (ending (m .checked) (m .crc) (length (held m))), ending-few (m .checked) (m .crc) (length (held m))) in
-    enough closeStep 3 m (map (transfer (m .area)) (cut bs)) out (close-sends m (o .writes-on) short) h few
-    ∙ ap (λ (l : List ℕ). ended (map (transfer (m .area)) (cut (held m ++ l)))) same
+module _ (m : MaskRomOperation) (o : Open m) where
+  abbrev behind : List ℕ
+  behind = held m ++ ending (m .checked) (m .crc) (length (held m))
+
+  closing-left : behind ≡ left m []
+  unfolding left
+  closing-left =
+      ap (λ (l : List ℕ). held m ++ l)
+      (ending-same (m .checked) (m .crc) (length (held m)) (m .taken + 0) (omega (arith, held-long m o))
+      ∙ ap (λ (c : ℕ). ending (m .checked) c (m .taken + 0)) (sym (register-empty (m .checked) (m .crc))))
+
+  pub close-due : Sends closeStep m (due m [])
+  close-due =
+      let short : length (held m) < 4096 = omega (arith, held-long m o) in
+      subst (λ (l : List ℕ). Sends closeStep m (map (transfer (m .area)) (cut l))) closing-left (close-sends m (o .writes-on) short)
+
+  pub two-at-most : length (due m []) < 3
+  two-at-most =
+      let bs = behind in
+      subst (λ (l : List ℕ). length (map (transfer (m .area)) (cut l)) < 3) closing-left
+      (omega
+      (arith, length-map (cut bs) (transfer (m .area)), cut-many bs, held-long m o, length-append (held m) (ending (m .checked) (m .crc) (length (held m))), ending-few (m .checked) (m .crc) (length (held m))))
+
+  close-ends : (out : List ℕ) → 4096 ≤ length out → stepThrough closeStep 3 m out ≡ ended (due m [])
+  close-ends out h = enough closeStep 3 m (due m []) out close-due h two-at-most
 
 -- any list of parts, handed over to a record that has taken anything
 pub parts-end : (parts : List (List ℕ)) (m : MaskRomOperation) (out : List ℕ) → Open m → 4096 ≤ length out
     → m .taken + length (flatten parts) ≤ longest
     → handAll parts m out (λ (m′ : MaskRomOperation) (now : List ℕ). stepThrough closeStep 3 m′ now) ≡ ended (due m (flatten parts))
 unfolding handAll flatten
-parts-end [] m out o h l = close-ends m out o h
+parts-end [] m out o h l = close-ends m o out h
 parts-end (part ∷ parts) m out o h l =
     let n : m .taken + (length part + length (flatten parts)) ≤ longest = omega (arith, l, length-append part (flatten parts)) in
     hand-ends (λ (m′ : MaskRomOperation) (now : List ℕ). handAll parts m′ now (λ (m″ : MaskRomOperation) (then : List ℕ). stepThrough closeStep 3 m″ then)) (flatten parts)

@@ -1,0 +1,82 @@
+-- Any caller of a part-wise upload, over what its functions promise. He sees answers and output alone, lends any output at each call, and does with it
+-- what he likes between two calls.
+use Prim.Native.Nat.{ℕ, zero, suc, _+_}
+use mathlib.Core.Path.{_≡_}
+use mathlib.Core.Bool.{Bool}
+use mathlib.Core.List.{List, [], _∷_, _++_}
+use lib.ListN.{length, drop}
+use Rattle.promise.specs.Told.{given, refused}
+use Rattle.promise.specs.Does.{Meets}
+use Rattle.maskrom.specs.declared.MaskRomOperation.{MaskRomOperation}
+use Rattle.maskrom.specs.declared.PartStepped.{PartStepped}
+use Rattle.maskrom.specs.declared.CloseStepped.{CloseStepped}
+use Rattle.maskrom.specs.Answers.{Handed, took, filled, Asks, writes, finish, partTold, stepTold}
+use Rattle.maskrom.specs.PartWise.{fresh, partStep, closeStep}
+use Rattle.theorems.specs.PartDriver.{Transfer, seen}
+
+-- what `MaskRomOperation::part` and `MaskRomOperation::close` promise of an answer, with the output before and after the call
+abbrev pub PartMeets : PartStepped → MaskRomOperation → List ℕ → List ℕ → List ℕ → Type 0
+PartMeets r m part before now = Meets (partTold (r .step)) (r .next) before now m (partStep m part (length before))
+
+abbrev pub CloseMeets : CloseStepped → MaskRomOperation → List ℕ → List ℕ → Type 0
+CloseMeets r m before now = Meets (stepTold (r .step)) (r .next) before now m (closeStep m (length before))
+
+-- how many bytes an answer says were taken, and the transfer that it asks for, where it does, with the output as the call left it
+unfoldable pub takenBy : Handed → ℕ
+takenBy (took n) = n
+takenBy (filled n c) = n
+
+unfoldable pub handedSeen : Handed → List ℕ → List Transfer
+handedSeen (took n) out = []
+handedSeen (filled n c) out = seen c out ∷ []
+
+unfoldable pub askedSeen : Asks → List ℕ → List Transfer
+askedSeen (writes c) out = seen c out ∷ []
+askedSeen finish out = []
+
+-- where any calls can bring a caller who has this image to upload: to a record, with `left` of the image to be handed over yet, and these transfers
+-- seen
+pub data Reached (area : ℕ) (checked : Bool) (image : List ℕ) : MaskRomOperation → List ℕ → List Transfer → Type 0 where
+  -- `MaskRomOperation::new`, or `new_no_crc`: all of the image is left
+  starts : (m : MaskRomOperation) → m ≡ fresh area checked → Reached area checked image m image []
+  -- a part that begins what is left, any of it or none: what the answer says was taken is left no more
+  hands : (m : MaskRomOperation) (left : List ℕ) (ts : List Transfer) (part rest before now : List ℕ) (r : PartStepped) (a : Handed)
+      → Reached area checked image m left ts → left ≡ part ++ rest → PartMeets r m part before now → partTold (r .step) ≡ given a
+      → Reached area checked image (r .next) (drop (takenBy a) left) (ts ++ handedSeen a now)
+  -- a closing step, once nothing is left
+  closes : (m : MaskRomOperation) (left : List ℕ) (ts : List Transfer) (before now : List ℕ) (r : CloseStepped) (a : Asks)
+      → Reached area checked image m left ts → left ≡ [] → CloseMeets r m before now → stepTold (r .step) ≡ given a
+      → Reached area checked image (r .next) left (ts ++ askedSeen a now)
+  -- a call that is refused, whatever it hands over and whenever it comes
+  part-refused : (m : MaskRomOperation) (left : List ℕ) (ts : List Transfer) (part before now : List ℕ) (r : PartStepped) (n : ℕ) (vs : List ℕ)
+      → Reached area checked image m left ts → PartMeets r m part before now → partTold (r .step) ≡ refused n vs
+      → Reached area checked image (r .next) left ts
+  close-refused : (m : MaskRomOperation) (left : List ℕ) (ts : List Transfer) (before now : List ℕ) (r : CloseStepped) (n : ℕ) (vs : List ℕ)
+      → Reached area checked image m left ts → CloseMeets r m before now → stepTold (r .step) ≡ refused n vs
+      → Reached area checked image (r .next) left ts
+
+-- he went on until he was answered the finish, and has seen these transfers
+pub data Finishes (area : ℕ) (checked : Bool) (image : List ℕ) : List Transfer → Type 0 where
+  finishes : (m : MaskRomOperation) (left : List ℕ) (ts : List Transfer) (before now : List ℕ) (r : CloseStepped)
+      → Reached area checked image m left ts → CloseMeets r m before now → stepTold (r .step) ≡ given finish → Finishes area checked image ts
+
+-- how many of his calls took a byte at least, and how many closing steps were not refused
+unfoldable pub oneOf : ℕ → ℕ
+oneOf zero = 0
+oneOf (suc n) = 1
+
+unfoldable pub takingCalls : {area : ℕ} {checked : Bool} {image : List ℕ} (m : MaskRomOperation) (left : List ℕ) (ts : List Transfer)
+    → Reached area checked image m left ts → ℕ
+takingCalls _ _ _ (starts m e) = 0
+takingCalls _ _ _ (hands m left ts part rest before now r a d e p g) = takingCalls m left ts d + oneOf (takenBy a)
+takingCalls _ _ _ (closes m left ts before now r a d e p g) = takingCalls m left ts d
+takingCalls _ _ _ (part-refused m left ts part before now r n vs d p g) = takingCalls m left ts d
+takingCalls _ _ _ (close-refused m left ts before now r n vs d p g) = takingCalls m left ts d
+
+unfoldable pub closingSteps : {area : ℕ} {checked : Bool} {image : List ℕ} (m : MaskRomOperation) (left : List ℕ) (ts : List Transfer)
+    → Reached area checked image m left ts → ℕ
+closingSteps _ _ _ (starts m e) = 0
+closingSteps _ _ _ (hands m left ts part rest before now r a d e p g) = closingSteps m left ts d
+closingSteps _ _ _ (closes m left ts before now r a d e p g) = closingSteps m left ts d + 1
+closingSteps _ _ _ (part-refused m left ts part before now r n vs d p g) = closingSteps m left ts d
+closingSteps _ _ _ (close-refused m left ts before now r n vs d p g) = closingSteps m left ts d
