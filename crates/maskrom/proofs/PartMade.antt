@@ -24,7 +24,7 @@ use Rattle.maskrom.specs.declared.CloseStepped.{CloseStepped}
 use Rattle.maskrom.specs.Answers.{longest, control, Handed, took, filled, Asks, partTold}
 use Rattle.maskrom.specs.PartWise.{fresh, waiting, held, closed, holding, takes}
 use Rattle.maskrom.specs.Calls.{PartMeets, CloseMeets, countOf, takenOf, no-calls, part-call, close-call}
-use Rattle.maskrom.specs.Made.{lastOf, padded, covers, PartPlace, PartAfter, PartMade}
+use Rattle.maskrom.specs.Made.{lastOf, pad, padded, covers, PartPlace, PartAfter, PartMade}
 use Rattle.maskrom.proofs.Lists.{take-front, filled-length}
 use Rattle.maskrom.proofs.Cases.{takes-full, takes-some}
 use Rattle.maskrom.proofs.Register.{register-empty, register-append}
@@ -32,11 +32,11 @@ use Rattle.maskrom.proofs.Branches.{clash, part-either, close-either}
 
 -- the pad is there after 4,095 bytes mod 4,096 alone
 pub padded-pad : (p : List ℕ) → length p % 4096 ≡ 4095 → padded p ≡ p ++ (0 ∷ [])
-unfolding padded
+unfolding padded pad
 padded-pad p e = rw (eq-eqb (length p % 4096) 4095 e)
 
 pub padded-not : (p : List ℕ) → (length p % 4096 ≡ 4095 → ⊥) → padded p ≡ p
-unfolding padded
+unfolding padded pad
 padded-not p n = rw (ne-eqb (length p % 4096) 4095 n) (append-nil p)
 
 pub fresh-after : (area : ℕ) (checked : Bool) → PartAfter area checked [] (fresh area checked)

@@ -22,9 +22,13 @@ use Rattle.maskrom.specs.Calls.{PartCalls, WholeCalls}
 abbrev pub lastOf : ℕ → List ℕ → List ℕ
 lastOf n l = drop (length l - n) l
 
--- "the image; a zero if its length mod 4,096 is 4,095"
+-- "a zero if its length mod 4,096 is 4,095"
+unfoldable pub pad : ℕ → List ℕ
+pad n = pick (eqb (n % blockSize) 4095) (0 ∷ []) []
+
+-- "the image; a zero if .."
 unfoldable pub padded : List ℕ → List ℕ
-padded p = p ++ pick (eqb (length p % blockSize) 4095) (0 ∷ []) []
+padded p = p ++ pad (length p)
 
 -- what the register covers: what was taken, and once the image is shut its pad too
 unfoldable pub covers : MaskRomSteps → List ℕ → List ℕ

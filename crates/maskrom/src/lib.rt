@@ -8,8 +8,9 @@ ghost use Rattle.promise.specs.Told.{given, number};
 ghost use Rattle.maskrom_transfer.specs.Moves.{register};
 ghost use Rattle.promise.specs.Does.{Meets};
 ghost use Rattle.maskrom.specs.Answers.{control, partTold, stepTold, startTold};
-ghost use Rattle.maskrom.specs.PartWise.{fresh, waiting, withBlock, holding, partStep, asks, withMoved, closeStep};
-ghost use Rattle.maskrom.specs.Whole.{freshWhole, StartMeets, most, sentOn, sendsOn, wholeStep};
+ghost use Rattle.maskrom.specs.PartWise.{fresh, waiting, withBlock, holding, asks, withMoved};
+ghost use Rattle.maskrom.specs.Whole.{freshWhole, StartMeets, most, sentOn, sendsOn};
+ghost use Rattle.maskrom.specs.Calls.{PartMeets, CloseMeets, StepMeets};
 ghost use Rattle.maskrom.specs.Code.{parted, closedWith, steppedWith};
 use maskrom_transfer::MaskRomSteps;
 use maskrom_transfer::Moved;
@@ -222,7 +223,7 @@ impl MaskRomOperation {
 
     // Hands over the next bytes of the image.
     pub fn part(self, part: &[u8], out: &mut [u8]) -> PartStepped
-        ensures { λ r. ⌜ Meets (partTold (r .step)) (r .next) (now (out .entry)) (now (out .exit)) self (partStep self (now (part .entry)) (length (now (out .entry)))) ⌝ }
+        ensures { λ r. ⌜ PartMeets r self (now (part .entry)) (now (out .entry)) (now (out .exit)) ⌝ }
     {
         if out.len() < BLOCK {
             return self.after_part(PartStep::OutputTooShort);
@@ -269,7 +270,7 @@ impl MaskRomOperation {
 
     // The image is complete: its next transfer, or the finish.
     pub fn close(self, out: &mut [u8]) -> CloseStepped
-        ensures { λ r. ⌜ Meets (stepTold (r .step)) (r .next) (now (out .entry)) (now (out .exit)) self (closeStep self (length (now (out .entry)))) ⌝ }
+        ensures { λ r. ⌜ CloseMeets r self (now (out .entry)) (now (out .exit)) ⌝ }
     {
         let n = (self.taken % 4096) as usize;
         let steps = self.steps;
@@ -388,7 +389,7 @@ impl WholeUpload {
 
     // The next transfer of the image, or the finish.
     pub fn step(self, image: &[u8], out: &mut [u8]) -> WholeStepped
-        ensures { λ r. ⌜ Meets (stepTold (r .step)) (r .next) (now (out .entry)) (now (out .exit)) self (wholeStep self (now (image .entry)) (length (now (out .entry)))) ⌝ }
+        ensures { λ r. ⌜ StepMeets r self (now (image .entry)) (now (out .entry)) (now (out .exit)) ⌝ }
     {
         if out.len() < BLOCK {
             return self.after_step(UploadStep::OutputTooShort);
