@@ -1,28 +1,26 @@
 -- What the upload is for: whatever a caller does between the start and the finish, he has seen the transfers of the whole image.
-use Prim.Native.Nat.{ℕ, zero, suc, _+_, _-_, _<_, _≤_, min}
-use mathlib.Core.Path.{_≡_, refl, ap, sym, _∙_, subst}
-use mathlib.Core.Bool.{Bool, true, false}
-use mathlib.Core.List.{List, [], _∷_, _++_, append-nil, append-assoc}
+use Prim.Native.Nat.{ℕ, zero, suc, _+_, _-_, _/_, _<_, _≤_}
+use mathlib.Core.Path.{_≡_, ap, sym, _∙_, subst}
+use mathlib.Core.Bool.{Bool, false}
+use mathlib.Core.List.{List, [], _++_, append-nil, append-assoc}
 use native.Mathlib.Omega.{arith}
-use native.Mathlib.Nat.{zero-add}
-use lib.ListN.{length, take, drop, length-append, length-drop}
+use lib.ListN.{length, take, length-append, length-drop}
 use Rattle.promise.specs.Told.{given, refused}
 use Rattle.promise.specs.Rules.{pick}
-use Rattle.promise.specs.Bytes.{front}
-use Rattle.promise.specs.Does.{said, sent, after}
+use Rattle.promise.specs.Does.{sent}
 use Rattle.maskrom_transfer.specs.declared.MaskRomSteps.{MaskRomSteps}
-use Rattle.maskrom_transfer.specs.declared.MaskRomSteps.the-variants.{Writing, Done}
 use Rattle.maskrom_transfer.specs.Moves.{blockSize, movesAt}
 use Rattle.maskrom.specs.declared.MaskRomOperation.{MaskRomOperation}
 use Rattle.maskrom.specs.declared.PartStepped.{PartStepped}
 use Rattle.maskrom.specs.declared.CloseStepped.{CloseStepped}
 use Rattle.maskrom.specs.Answers.{longest, Handed, Asks, finish, partTold, stepTold}
-use Rattle.maskrom.specs.PartWise.{fresh, waiting, held, closed, takes, asks, partStep, closeStep}
-use Rattle.theorems.specs.PartDriver.{Transfer, transfersOf}
+use Rattle.maskrom.specs.PartWise.{waiting, held, closed, takes, asks, partStep, closeStep}
+use Rattle.theorems.specs.UploadBytes.{total}
+use Rattle.theorems.specs.PartDriver.{Transfer, ended, driveWhole, transfersOf}
 use Rattle.theorems.specs.AnyCaller.{PartMeets, CloseMeets, takenBy, handedSeen, askedSeen, Reached, starts, hands, closes, part-refused, close-refused, Finishes, finishes, oneOf, takingCalls, closingSteps}
 use Rattle.theorems.proofs.PartsSend.{Open, due}
-use Rattle.theorems.proofs.AnyCut.{start-due, fresh-open}
-use Rattle.theorems.proofs.OneCall.{refused-stays, before-finish, close-given, close-nearer, finish-done, Owes, still, shut, close-takes, part-given, taken-is, part-keeps, part-takes-due, finish-owes-none, close-at-end}
+use Rattle.theorems.proofs.AnyCut.{start-due, fresh-open, whole-image}
+use Rattle.theorems.proofs.OneCall.{refused-stays, before-finish, close-given, close-nearer, Owes, still, shut, close-takes, part-given, taken-is, part-keeps, part-takes-due, finish-owes-none, close-at-end}
 
 -- no call of such a caller is refused where its output has 4,096 bytes: closing steps never ..
 pub closing-not-refused : (m : MaskRomOperation) (before now : List ℕ) (r : CloseStepped) → CloseMeets r m before now → blockSize ≤ length before
@@ -75,6 +73,11 @@ module _ (area : ℕ) (checked : Bool) (image : List ℕ) (l : length image ≤ 
       let o = owed m left ts d in
       let none = finish-owes-none m left (o .later) before now r (o .owes) p g in
       sym (append-nil ts) ∙ ap (λ (x : List Transfer). ts ++ x) (sym (none .1)) ∙ o .total
+
+  -- and so those of the whole upload
+  pub as-the-whole-upload : (ts : List Transfer) (out : List ℕ) → Finishes area checked image ts → blockSize ≤ length out
+      → driveWhole (total (length image) / blockSize + 2) area checked image out ≡ ended ts
+  as-the-whole-upload ts out f h = whole-image area checked image out l h ∙ ap ended (sym (any-caller ts f))
 
   -- the finish is answered only where nothing is left
   pub finish-means-all : (m : MaskRomOperation) (left : List ℕ) (ts : List Transfer) (before now : List ℕ) (r : CloseStepped) → Reached area checked image m left ts

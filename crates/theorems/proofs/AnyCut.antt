@@ -63,7 +63,7 @@ how-many area checked image =
     ∙ ap (λ (k : ℕ). k / 4096 + 1) (upload-length checked image)
 
 -- a whole upload in its first state
-started : (area : ℕ) (checked : Bool) (image : List ℕ) → length image ≤ longest
+pub started : (area : ℕ) (checked : Bool) (image : List ℕ) → length image ≤ longest
     → startStep area checked image ≡ given (does tt [] (freshWhole area checked (length image)))
 unfolding startStep orRefuse
 started area checked image l = rw (le-ltb longest (length image) l)

@@ -31,7 +31,7 @@ use Rattle.theorems.specs.PartDriver.{Transfer}
 use Rattle.theorems.specs.AnyCaller.{PartMeets, CloseMeets, takenBy, handedSeen, askedSeen, Reached, hands, closes}
 use Rattle.theorems.proofs.AnyCaller.{part-not-refused, closing-not-refused}
 
-part-told : (m : MaskRomOperation) (xs : List ℕ) (room : ℕ) → (s : PartStep) × (partTold s ≡ said (partStep m xs room))
+pub part-told : (m : MaskRomOperation) (xs : List ℕ) (room : ℕ) → (s : PartStep) × (partTold s ≡ said (partStep m xs room))
 unfolding partStep orRefuse takes said partTold
 part-told m xs room =
     let ys = take (4096 - waiting m) xs in
@@ -56,7 +56,7 @@ asked-told Check area n = (upload.WriteControl (control area n), refl)
 asked-told Dummy area n = (upload.WriteControl (control area n), refl)
 asked-told Done area n = (upload.Finished, refl)
 
-close-told : (m : MaskRomOperation) (room : ℕ) → Dec (room < 4096) → (s : UploadStep) × (stepTold s ≡ said (closeStep m room))
+pub close-told : (m : MaskRomOperation) (room : ℕ) → Dec (room < 4096) → (s : UploadStep) × (stepTold s ≡ said (closeStep m room))
 unfolding said stepTold
 close-told m room (yes h) = (upload.OutputTooShort, sym (ap said (close-20 m room h)))
 close-told m room (no h) =

@@ -1,11 +1,11 @@
 -- What one call does to what a part-wise upload has still to send: it takes the front of the image and of the transfers.
-use Prim.Native.Nat.{ℕ, zero, suc, _+_, _-_, _<_, _≤_, min}
+use Prim.Native.Nat.{ℕ, _+_, _-_, _<_, _≤_, min}
 use mathlib.Core.Path.{_≡_, refl, ap, ap₂, sym, _∙_, subst}
 use mathlib.Core.Bool.{Bool, true, false}
 use mathlib.Core.List.{List, [], _∷_, _++_}
 use native.Mathlib.Omega.{arith}
 use native.Mathlib.Decide.{decLt, ℕ-discrete}
-use lib.ListN.{length, take, drop, length-append, length-take, length-drop, take-append-drop}
+use lib.ListN.{length, take, drop, length-append, length-take, take-append-drop}
 use lib.Seq.{take-append-le}
 use Rattle.promise.specs.Told.{Told, given, refused}
 use lib.Dec.{eqb, ltb}
@@ -23,14 +23,14 @@ use Rattle.maskrom.specs.declared.Control.{Control}
 use Rattle.maskrom.specs.declared.PartStepped.{PartStepped}
 use Rattle.maskrom.specs.declared.CloseStepped.{CloseStepped}
 use Rattle.maskrom.specs.Answers.{longest, tooLong, closedAlready, control, Handed, took, filled, Asks, writes, finish, partTold, stepTold}
-use Rattle.maskrom.specs.PartWise.{waiting, held, closed, holding, takes, partStep, asks, withMoved, closeStep}
-use Rattle.maskrom.proofs.Cases.{part-20, part-26, part-takes, takes-full, takes-some, close-20, close-acts}
+use Rattle.maskrom.specs.PartWise.{waiting, held, closed, holding, takes, partStep, asks, closeStep}
+use Rattle.maskrom.proofs.Cases.{part-takes, takes-full, takes-some, close-20, close-acts}
 use Rattle.maskrom.proofs.Lists.{filled-length}
 use Rattle.maskrom.proofs.Writes.{front-seen}
 use Rattle.theorems.specs.PartDriver.{Transfer, transfer, seen}
 use Rattle.theorems.specs.AnyCaller.{PartMeets, CloseMeets, takenBy, handedSeen, askedSeen}
 use Rattle.theorems.proofs.StepsToFinish.{Sends, finishes, sends}
-use Rattle.theorems.proofs.ClosingSends.{close-goes, close-done}
+use Rattle.theorems.proofs.ClosingSends.{close-done}
 use Rattle.theorems.proofs.PartsSend.{Open, due, still-open, due-some, due-full, close-due}
 
 -- a value is no refusal

@@ -1,9 +1,11 @@
 -- What the statements of the theorems speak of. `UploadBytes` is what goes over the wire, `PartDriver` what somebody sees who hands an image over to
--- the end, `AnyCaller` what any calls of a part-wise upload come to, `Runs` whole runs from their starts, `Told` what they may be told, `Standing` a
--- device between two runs, `Deck` a bench between two blocks, `Resumed` two runs taken as one.
+-- the end, `AnyCaller` what any calls of a part-wise upload come to, `DriveTrace` the transfers of the uploads that C and Rust link, `Runs` whole runs
+-- from their starts, `Told` what they may be told, `Standing` a device between two runs, `Deck` a bench between two blocks, `Resumed` two runs taken
+-- as one.
 pub mod UploadBytes
 pub mod PartDriver
 pub mod AnyCaller
+pub mod DriveTrace
 pub mod Runs
 pub mod Told
 pub mod Standing

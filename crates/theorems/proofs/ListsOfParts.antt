@@ -1,10 +1,10 @@
 -- The driver that hands over lists of parts, and again what was not taken of each, is one of those callers: whatever it ends with is what he has seen.
-use Prim.Native.Nat.{ℕ, zero, suc, _+_, _≤_, min}
+use Prim.Native.Nat.{ℕ, zero, suc, _+_, _≤_}
 use mathlib.Core.Path.{_≡_, refl, ap, sym, _∙_, subst}
 use mathlib.Core.Bool.{Bool}
 use mathlib.Core.List.{List, [], _∷_, _++_, flatten, append-nil, append-assoc}
 use native.Mathlib.Omega.{arith}
-use lib.ListN.{length, drop}
+use lib.ListN.{length, drop, replicate, length-replicate}
 use lib.Seq.{drop-append-le}
 use Rattle.promise.specs.Told.{Told, given, refused}
 use Rattle.promise.specs.Bytes.{front}
@@ -12,13 +12,13 @@ use Rattle.promise.specs.Does.{Does, does, said, sent, after}
 use Rattle.maskrom.specs.declared.MaskRomOperation.{MaskRomOperation}
 use Rattle.maskrom.specs.declared.PartStep.{PartStep}
 use Rattle.maskrom.specs.declared.PartStep.the-variants as part
-use Rattle.maskrom.specs.declared.UploadStep.{UploadStep}
 use Rattle.maskrom.specs.declared.UploadStep.the-variants as upload
-use Rattle.maskrom.specs.Answers.{Handed, took, filled, Asks, writes, finish, partTold, stepTold}
+use Rattle.maskrom.specs.Answers.{longest, Handed, took, filled, Asks, writes, finish, partTold, stepTold}
 use Rattle.maskrom.specs.PartWise.{fresh, partStep, closeStep}
 use Rattle.maskrom.specs.Code.{parted, closedWith}
-use Rattle.theorems.specs.PartDriver.{Transfer, Drive, ended, stopped, unending, sending, seen, onStep, stepThrough, orAgain, onPart, hand, handAll, driveParts}
+use Rattle.theorems.specs.PartDriver.{Transfer, Drive, ended, stopped, unending, sending, seen, onStep, stepThrough, orAgain, onPart, hand, handAll, driveParts, transfersOf}
 use Rattle.theorems.specs.AnyCaller.{PartMeets, CloseMeets, takenBy, handedSeen, askedSeen, Reached, starts, hands, closes, Finishes, finishes}
+use Rattle.theorems.proofs.AnyCut.{any-cut}
 use Rattle.theorems.proofs.OneCall.{taken-is}
 
 -- a driving that ended was neither refused nor left unended
@@ -134,3 +134,13 @@ pub driver-is-a-caller : (area : ℕ) (checked : Bool) (parts : List (List ℕ))
 unfolding driveParts
 driver-is-a-caller area checked parts out ts e =
     parts-call area checked (flatten parts) parts (fresh area checked) out [] ts (starts (fresh area checked) refl) e
+
+-- so there is a caller who is answered the finish, for every image
+pub someone-finishes : (area : ℕ) (checked : Bool) (image : List ℕ) → length image ≤ longest → Finishes area checked image (transfersOf area checked image)
+unfolding flatten
+someone-finishes area checked image l =
+    let one : flatten (image ∷ []) ≡ image = append-nil image in
+    let out = replicate {A = ℕ} 4096 0 in
+    let long : 4096 ≤ length out = omega (arith, length-replicate {A = ℕ} 4096 0) in
+    subst (λ (x : List ℕ). Finishes area checked x (transfersOf area checked image)) one
+    (driver-is-a-caller area checked (image ∷ []) out (transfersOf area checked image) (any-cut area checked image (image ∷ []) out one l long))
