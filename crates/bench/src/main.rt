@@ -110,7 +110,8 @@ fn deal_all(
     flash: &mut [u8; 65536],
     store: &mut [u8; 65536],
 ) {
-    let bench = Bench::new(flash, store);
+    let start = Bench::new(flash, store);
+    let bench = start.bench;
     let output = Output {
         used: 0,
         is_open: true,

@@ -1,14 +1,27 @@
--- Two steps that the contract allows are equal, and so are the flash and the store that they leave.
+-- Two starts and two steps that the contract allows are equal, and so are the flash and the store that they leave.
 use Prim.Native.Nat.{ℕ}
 use mathlib.Core.Path.{_≡_, ap, ap₂, sym, _∙_}
 use mathlib.Core.List.{List}
+use lib.ListN.{length}
+use Rattle.mock_base.specs.declared.error.MockAnswer.{MockAnswer}
+use Rattle.mock_base.proofs.Unique.{answers-unique}
 use Rattle.operation_finish.specs.declared.Beside.{Beside}
 use Rattle.deck.specs.declared.verdict.Verdict.{Verdict}
 use Rattle.deck.specs.Deal.{Head, head}
 use Rattle.deck.proofs.VerdictUnique.{same-verdict}
 use Rattle.deck.specs.declared.bench.Bench.{Bench}
+use Rattle.deck.specs.declared.bench.BenchStart.{BenchStart}
 use Rattle.deck.specs.declared.bench.DeckStep.{DeckStep}
-use Rattle.deck.specs.Bench.{benchAt, StepMeets}
+use Rattle.deck.specs.Bench.{benchAt, startTold, StartMeets, StepMeets}
+
+pub start-unique : (r s : BenchStart) (after₁ after₂ flash : List ℕ) (n : ℕ) → StartMeets r after₁ flash n → StartMeets s after₂ flash n
+    → (r ≡ s) × (after₁ ≡ after₂)
+start-unique r s after₁ after₂ flash n p q = (
+  ap₂ (λ (a : MockAnswer) (b : Bench). record { answer = a; bench = b })
+      (answers-unique (r .answer) (s .answer) (startTold (length flash)) (p .tells) (q .tells))
+      (p .fresh ∙ sym (q .fresh)),
+  p .leaves ∙ sym (q .leaves),
+)
 
 abbrev stepAs : Verdict → Beside → Bench → DeckStep
 stepAs verdict beside bench = record { verdict = verdict; beside = beside; bench = bench }

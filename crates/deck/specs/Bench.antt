@@ -2,18 +2,38 @@
 use Prim.Native.Nat.{ℕ, _+_, _%_, _^_}
 use mathlib.Core.Path.{_≡_}
 use mathlib.Core.List.{List}
+use lib.ListN.{length, replicate}
+use Rattle.promise.specs.Told.{Told, given, refused, andThen}
 use Rattle.mock.specs.declared.device.MockState.{MockState}
-use Rattle.mock_base.specs.Config.{defaultConfig}
+use Rattle.mock_base.specs.Config.{defaultConfig, defaultByte}
+use Rattle.mock_base.specs.Flash.{flashSectors}
+use Rattle.mock_base.specs.Told.{Answers}
 use Rattle.mock.specs.Device.{freshState}
 use Rattle.deck.specs.Verdict.{verdictTold, besideDealt}
 use Rattle.deck.specs.Deal.{Deal, head}
 use Rattle.deck.specs.declared.bench.Bench.{Bench}
+use Rattle.deck.specs.declared.bench.BenchStart.{BenchStart}
 use Rattle.deck.specs.declared.bench.DeckStep.{DeckStep}
 use Rattle.deck.specs.Dealing.{dealBlock}
 
 -- "The device starts as the Rust's default"
 abbrev pub freshBench : ℕ → Bench
 freshBench storeLength = record { device = freshState defaultConfig storeLength; number = 0; tag = 0 }
+
+-- 60 and 61 for a lent flash of so many bytes
+abbrev pub startTold : ℕ → Told Unit
+startTold flashLength = andThen (flashSectors flashLength) (λ sectors. given tt)
+
+-- each byte of the flash as the default's; a refused one is left as it was
+unfoldable pub startFlash : Told Unit → List ℕ → List ℕ
+startFlash (given done) flash = replicate (length flash) defaultByte
+startFlash (refused number values) flash = flash
+
+-- a start that answers r and leaves the flash `after`; beside a refusal stands the bench as if unrefused
+pub record StartMeets (r : BenchStart) (after flash : List ℕ) (storeLength : ℕ) : Type 0 where
+  pub tells : Answers (r .answer) (startTold (length flash))
+  pub fresh : r .bench ≡ freshBench storeLength
+  pub leaves : after ≡ startFlash (startTold (length flash)) flash
 
 -- "the tag goes on from 4,294,967,295 to 0"
 abbrev pub nextTag : Bench → ℕ

@@ -1,3 +1,2 @@
 // The configuration that a device is made from.
-pub use mock_base::config::DEFAULT_SECTORS;
 pub use mock_base::config::MockDeviceConfig;

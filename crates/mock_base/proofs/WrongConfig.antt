@@ -5,7 +5,7 @@ use mathlib.Core.List.{List}
 use native.Mathlib.Omega.{arith}
 use lib.ListN.{getD}
 use Rattle.promise.specs.Bytes.{lowFirst}
-use Rattle.mock_base.specs.Config.{defaultConfig, flashInfo}
+use Rattle.mock_base.specs.Config.{defaultConfig, defaultSectors, flashInfo}
 use Rattle.mock_base.specs.declared.config.MockDeviceConfig.{MockDeviceConfig}
 
 -- `MockDeviceConfig::default`: another block size, whatever the rest is
@@ -18,6 +18,13 @@ pub another-capability : (config : MockDeviceConfig) → getD (config .capabilit
 unfolding defaultConfig
 another-capability config first e =
     let other : getD (config .capability) 0 0 ≡ 0x09 = ap (λ (c : MockDeviceConfig). getD (c .capability) 0 0) e in omega arith
+
+-- `MockDeviceConfig::default_sectors`: one sector too few, or one too many
+pub sector-too-few : (n : ℕ) → n ≡ 127 → n ≡ defaultSectors → ⊥
+sector-too-few n fewer e = omega arith
+
+pub sector-too-many : (n : ℕ) → n ≡ 129 → n ≡ defaultSectors → ⊥
+sector-too-many n more e = omega arith
 
 -- `MockDeviceConfig::flash_info`: one reply for a flash of any number of sectors
 pub one-reply : (reply : List ℕ) → reply ≡ flashInfo defaultConfig 128 → reply ≡ flashInfo defaultConfig 129 → ⊥

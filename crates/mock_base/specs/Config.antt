@@ -1,8 +1,9 @@
 -- What a stand-in device says of itself, and the Rust's default.
-use Prim.Native.Nat.{ℕ}
+use Prim.Native.Nat.{ℕ, _*_}
 use mathlib.Core.List.{List, [], _∷_, _++_}
 use lib.ListN.{replicate}
 use Rattle.promise.specs.Bytes.{lowFirst}
+use Rattle.protocol_bytes.specs.Sector.{sectorSize}
 use Rattle.mock_base.specs.declared.config.MockDeviceConfig.{MockDeviceConfig}
 
 -- `rockusb-mock-v1!`
@@ -16,6 +17,13 @@ defaultFlashId = 0x4D ∷ 0x4F ∷ 0x43 ∷ 0x4B ∷ 0x21 ∷ []
 
 abbrev pub defaultSectors : ℕ
 defaultSectors = 128
+
+-- as good as erased: each byte is 0xFF
+abbrev pub defaultByte : ℕ
+defaultByte = 0xFF
+
+unfoldable pub defaultFlash : List ℕ
+defaultFlash = replicate (defaultSectors * sectorSize) defaultByte
 
 abbrev pub defaultBlockSize : ℕ
 defaultBlockSize = 64

@@ -2,9 +2,9 @@
 use protocol_bytes::order::u16_to_le_bytes;
 use protocol_bytes::order::u32_to_le_bytes;
 ghost use mathlib.Core.Path.{_≡_};
-ghost use Rattle.mock_base.specs.Config.{defaultConfig, flashInfo};
+ghost use Rattle.mock_base.specs.Config.{defaultConfig, defaultSectors, flashInfo};
 
-pub const DEFAULT_SECTORS: usize = 128;
+const DEFAULT_SECTORS: usize = 128;
 
 const DEFAULT_BLOCK_SIZE_SECTORS: u16 = 64;
 
@@ -44,6 +44,13 @@ impl MockDeviceConfig {
             block_size_sectors: DEFAULT_BLOCK_SIZE_SECTORS,
             flash_info_extra: [0, 0, 0, 0, 0],
         }
+    }
+
+    // How many sectors the default's flash has.
+    pub fn default_sectors() -> usize
+        ensures { λ r. ⌜ r ≡ defaultSectors ⌝ }
+    {
+        DEFAULT_SECTORS
     }
 
     // The reply to flash info, of a flash of so many sectors.

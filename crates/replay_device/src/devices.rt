@@ -1,5 +1,4 @@
 // "The device": raw calls on the current device.
-use mock::config::DEFAULT_SECTORS;
 use mock::config::MockDeviceConfig;
 use mock::device::MockState;
 use mock::device::MockStep;
@@ -121,7 +120,7 @@ fn started(config: MockDeviceConfig, flash: &[u8], n: usize, store: &[u8], m: us
 
 // `dvd`
 fn default(asked: Asked, flash: &mut [u8], store: &[u8]) -> Stood {
-    let n = DEFAULT_SECTORS * 512;
+    let n = MockDeviceConfig::default_sectors() * 512;
     fill(flash, n, 255);
     started(
         MockDeviceConfig::default(),
