@@ -1,157 +1,172 @@
--- What the upload is for: whatever a caller does between the start and the finish, he has seen the transfers of the whole image.
-use Prim.Native.Nat.{ℕ, zero, suc, _+_, _-_, _/_, _<_, _≤_}
+-- What the upload is for: whatever calls a caller makes between the start and the finish, he has seen the transfers of the bytes that were taken.
+use Prim.Native.Nat.{ℕ, zero, suc, _+_, _-_, _≤_, min}
 use mathlib.Core.Path.{_≡_, ap, sym, _∙_, subst}
-use mathlib.Core.Bool.{Bool, false}
+use mathlib.Core.Bool.{Bool, true, false}
 use mathlib.Core.List.{List, [], _++_, append-nil, append-assoc}
 use native.Mathlib.Omega.{arith}
-use lib.ListN.{length, take, length-append, length-drop}
-use Rattle.promise.specs.Told.{given, refused}
+use lib.ListN.{length, take, length-append, length-take}
+use Rattle.promise.specs.Told.{given}
 use Rattle.promise.specs.Rules.{pick}
-use Rattle.promise.specs.Does.{sent}
 use Rattle.maskrom_transfer.specs.declared.MaskRomSteps.{MaskRomSteps}
+use Rattle.maskrom_transfer.specs.declared.MaskRomSteps.the-variants.{Writing, Done}
 use Rattle.maskrom_transfer.specs.Moves.{blockSize, movesAt}
 use Rattle.maskrom.specs.declared.MaskRomOperation.{MaskRomOperation}
 use Rattle.maskrom.specs.declared.PartStepped.{PartStepped}
 use Rattle.maskrom.specs.declared.CloseStepped.{CloseStepped}
 use Rattle.maskrom.specs.Answers.{longest, Handed, Asks, finish, partTold, stepTold}
 use Rattle.maskrom.specs.PartWise.{waiting, held, closed, takes, asks, partStep, closeStep}
-use Rattle.theorems.specs.UploadBytes.{total}
-use Rattle.theorems.specs.PartDriver.{Transfer, ended, driveWhole, transfersOf}
-use Rattle.theorems.specs.AnyCaller.{PartMeets, CloseMeets, takenBy, handedSeen, askedSeen, Reached, starts, hands, closes, part-refused, close-refused, Finishes, finishes, oneOf, takingCalls, closingSteps}
-use Rattle.theorems.proofs.PartsSend.{Open, due}
-use Rattle.theorems.proofs.AnyCut.{start-due, fresh-open, whole-image}
-use Rattle.theorems.proofs.OneCall.{refused-stays, before-finish, close-given, close-nearer, Owes, still, shut, close-takes, part-given, taken-is, part-keeps, part-takes-due, finish-owes-none, close-at-end}
+use Rattle.theorems.specs.PartDriver.{Transfer, transfersOf}
+use Rattle.theorems.specs.AnyCaller.{PartMeets, CloseMeets, takenBy, handedSeen, askedSeen, Called, made, taking, closing, no-part, no-closing, Uploaded, uploaded, oneOf, takingCalls, closingSteps}
+use Rattle.theorems.proofs.StepsToFinish.{Sends}
+use Rattle.theorems.proofs.PartsSend.{Open, due, close-due}
+use Rattle.theorems.proofs.AnyCut.{start-due, fresh-open}
+use Rattle.theorems.proofs.OneCall.{refused-stays, before-finish, close-given, close-unopens, close-nearer, close-at-end, finish-done, close-takes, finish-takes-none, part-given, part-unshut, part-fits, close-keeps-taken, taken-is, taken-counted, part-keeps, part-open, part-takes-due}
 
--- no call of such a caller is refused where its output has 4,096 bytes: closing steps never ..
-pub closing-not-refused : (m : MaskRomOperation) (before now : List ℕ) (r : CloseStepped) → CloseMeets r m before now → blockSize ≤ length before
-    → (a : Asks) × (stepTold (r .step) ≡ given a)
-closing-not-refused m before now r p h = (asks (m .steps) (m .area) (length (movesAt (m .steps) (m .checked) (m .crc) (held m) .bytes)), close-given m before now r p h)
+-- what was sent and what is still to be sent are the transfers of the bytes taken and of any that come, until the image is shut
+pub data Sent (area : ℕ) (checked : Bool) : MaskRomOperation → List ℕ → List Transfer → Type 0 where
+  unshut : (m : MaskRomOperation) (taken : List ℕ) (ts : List Transfer) → Open m → ((xs : List ℕ) → ts ++ due m xs ≡ transfersOf area checked (taken ++ xs))
+      → Sent area checked m taken ts
+  shut : (m : MaskRomOperation) (taken : List ℕ) (ts us : List Transfer) → closed (m .steps) ≡ true → Sends closeStep m us → ts ++ us ≡ transfersOf area checked taken
+      → Sent area checked m taken ts
 
--- what is still to be sent, and that it and the transfers seen are those of the image
-record Owed (area : ℕ) (checked : Bool) (image : List ℕ) (m : MaskRomOperation) (left : List ℕ) (ts : List Transfer) : Type 0 where
-  later : List Transfer
-  owes : Owes m left later
-  total : ts ++ later ≡ transfersOf area checked image
+pub true-not-false : {C : Type 0} → true ≡ false → C
+true-not-false e = absurd (let z : _≡_ {A = ℕ} 0 1 = ap (λ (b : Bool). pick b 0 1) e in omega arith)
 
-module _ (area : ℕ) (checked : Bool) (image : List ℕ) (l : length image ≤ longest) where
-  owed : (m : MaskRomOperation) (left : List ℕ) (ts : List Transfer) → Reached area checked image m left ts → Owed area checked image m left ts
-  owed _ _ _ (starts m e) = record {
-    later = due m image;
-    owes = still m image (subst Open (sym e) (fresh-open area checked)) (subst (λ (x : MaskRomOperation). x .taken + length image ≤ longest) (sym e) (omega arith));
-    total = ap (λ (x : MaskRomOperation). due x image) e ∙ start-due area checked image;
-  }
-  owed _ _ _ (hands m left ts part rest before now r a d e p g) =
-      let o = owed m left ts d in
-      let t = part-takes-due m left (o .later) part rest before now r a (o .owes) e p g in
-      record { later = t .0; owes = t .2; total = append-assoc ts (handedSeen a now) (t .0) ∙ ap (λ (x : List Transfer). ts ++ x) (sym (t .1)) ∙ o .total }
-  owed _ _ _ (closes m left ts before now r a d e p g) =
-      let o = owed m left ts d in
-      let t = close-takes m left (o .later) before now r a (o .owes) e p g in
-      record {
-        later = t .0;
-        owes = subst (λ (x : List ℕ). Owes (r .next) x (t .0)) (sym e) (t .2);
-        total = append-assoc ts (askedSeen a now) (t .0) ∙ ap (λ (x : List Transfer). ts ++ x) (sym (t .1)) ∙ o .total;
-      }
-  owed _ _ _ (part-refused m left ts part before now r n vs d p g) =
-      let o = owed m left ts d in
-      let same = refused-stays (partTold (r .step)) (r .next) m before now (partStep m part (length before)) n vs p g in
-      record { later = o .later; owes = subst (λ (x : MaskRomOperation). Owes x left (o .later)) (sym same) (o .owes); total = o .total }
-  owed _ _ _ (close-refused m left ts before now r n vs d p g) =
-      let o = owed m left ts d in
-      let same = refused-stays (stepTold (r .step)) (r .next) m before now (closeStep m (length before)) n vs p g in
-      record { later = o .later; owes = subst (λ (x : MaskRomOperation). Owes x left (o .later)) (sym same) (o .owes); total = o .total }
+pub few-of : (room l n : ℕ) → n ≡ min room l → n ≤ l
+few-of room l n e = omega arith
 
-  -- at any time what was seen is what the list begins with
-  pub seen-so-far : (m : MaskRomOperation) (left : List ℕ) (ts : List Transfer) → Reached area checked image m left ts
-      → (later : List Transfer) × (ts ++ later ≡ transfersOf area checked image)
-  seen-so-far m left ts d = let o = owed m left ts d in (o .later, o .total)
+all-counted : (x m n t l k y : ℕ) → x ≡ m + n → m ≡ t → k ≡ min n l → n ≤ l → y ≡ t + k → x ≡ y
+all-counted x m n t l k y a b c d e = omega arith
 
-  -- DEMAND 3. Any calls from the start to the finish, with any output at each, of which those that are not refused hand over the image in order and then
-  -- close: the transfers seen are those of the upload's bytes.
-  pub any-caller : (ts : List Transfer) → Finishes area checked image ts → ts ≡ transfersOf area checked image
-  any-caller _ (finishes m left ts before now r d p g) =
-      let o = owed m left ts d in
-      let none = finish-owes-none m left (o .later) before now r (o .owes) p g in
-      sym (append-nil ts) ∙ ap (λ (x : List Transfer). ts ++ x) (sym (none .1)) ∙ o .total
+still-fits : (m t l k y n : ℕ) → m ≡ t → m + l ≤ longest → k ≡ min n l → y ≡ t + k → y ≤ longest
+still-fits m t l k y n a b c d = omega arith
 
-  -- and so those of the whole upload
-  pub as-the-whole-upload : (ts : List Transfer) (out : List ℕ) → Finishes area checked image ts → blockSize ≤ length out
-      → driveWhole (total (length image) / blockSize + 2) area checked image out ≡ ended ts
-  as-the-whole-upload ts out f h = whole-image area checked image out l h ∙ ap ended (sym (any-caller ts f))
+module _ (area : ℕ) (checked : Bool) where
+  part-sent : (m : MaskRomOperation) (taken : List ℕ) (ts : List Transfer) (part before now : List ℕ) (r : PartStepped) (a : Handed) → Sent area checked m taken ts
+      → PartMeets r m part before now → partTold (r .step) ≡ given a → Sent area checked (r .next) (taken ++ take (takenBy a) part) (ts ++ handedSeen a now)
+  part-sent m taken ts part before now r a (unshut m₁ taken₁ ts₁ o f) p g =
+      let ys = take (takenBy a) part in
+      let seen-now = handedSeen a now in
+      unshut (r .next) (taken₁ ++ ys) (ts₁ ++ seen-now) (part-open m₁ part before now r p a g o)
+      (λ xs. append-assoc ts₁ seen-now (due (r .next) xs)
+      ∙ ap (λ (l : List Transfer). ts₁ ++ l) (sym (part-takes-due m₁ part before now r p a g o xs))
+      ∙ f (ys ++ xs)
+      ∙ ap (transfersOf area checked) (sym (append-assoc taken₁ ys xs)))
+  part-sent m taken ts part before now r a (shut m₁ taken₁ ts₁ us c s e) p g = true-not-false (sym c ∙ part-unshut m₁ part before now r p a g)
 
-  -- the finish is answered only where nothing is left
-  pub finish-means-all : (m : MaskRomOperation) (left : List ℕ) (ts : List Transfer) (before now : List ℕ) (r : CloseStepped) → Reached area checked image m left ts
-      → CloseMeets r m before now → stepTold (r .step) ≡ given finish → left ≡ []
-  finish-means-all m left ts before now r d p g =
-      let o = owed m left ts d in
-      finish-owes-none m left (o .later) before now r (o .owes) p g .0
+  closing-sent : (m : MaskRomOperation) (taken : List ℕ) (ts us : List Transfer) (before now : List ℕ) (r : CloseStepped) (a : Asks) → Sends closeStep m us
+      → ts ++ us ≡ transfersOf area checked taken → CloseMeets r m before now → stepTold (r .step) ≡ given a → Sent area checked (r .next) taken (ts ++ askedSeen a now)
+  closing-sent m taken ts us before now r a s e p g =
+      let t = close-takes m us before now r p a g s in
+      shut (r .next) taken (ts ++ askedSeen a now) (t .0) (close-unopens m before now r p a g) (t .2)
+      (append-assoc ts (askedSeen a now) (t .0) ∙ ap (λ (l : List Transfer). ts ++ l) (sym (t .1)) ∙ e)
 
-  owes-fits : (m : MaskRomOperation) (left : List ℕ) (us : List Transfer) → Owes m left us → closed (m .steps) ≡ false → m .taken + length left ≤ longest
-  owes-fits m left us (still m₁ left₁ o f) c = f
-  owes-fits m left us (shut m₁ us₁ s w) c = absurd (let z : _≡_ {A = ℕ} 0 1 = ap (λ (b : Bool). pick b 0 1) (sym s ∙ c) in omega arith)
+  close-sent : (m : MaskRomOperation) (taken : List ℕ) (ts : List Transfer) (before now : List ℕ) (r : CloseStepped) (a : Asks) → Sent area checked m taken ts
+      → CloseMeets r m before now → stepTold (r .step) ≡ given a → Sent area checked (r .next) taken (ts ++ askedSeen a now)
+  close-sent m taken ts before now r a (unshut m₁ taken₁ ts₁ o f) p g =
+      closing-sent m₁ taken₁ ts₁ (due m₁ []) before now r a (close-due m₁ o) (f [] ∙ ap (transfersOf area checked) (append-nil taken₁)) p g
+  close-sent m taken ts before now r a (shut m₁ taken₁ ts₁ us c s e) p g = closing-sent m₁ taken₁ ts₁ us before now r a s e p g
 
-  owes-open : (m : MaskRomOperation) (left : List ℕ) (us : List Transfer) → Owes m left us → 0 < length left → closed (m .steps) ≡ false
-  unfolding closed
-  owes-open m left us (still m₁ left₁ o f) h = ap closed (o .writes-on)
-  owes-open m left us (shut m₁ us₁ s w) h = absurd (omega arith)
+  pub sent-so : (m : MaskRomOperation) (taken : List ℕ) (ts : List Transfer) → Called area checked m taken ts → Sent area checked m taken ts
+  sent-so _ _ _ (made m e) =
+      unshut m [] [] (subst Open (sym e) (fresh-open area checked)) (λ xs. ap (λ (x : MaskRomOperation). due x xs) e ∙ start-due area checked xs)
+  sent-so _ _ _ (taking m taken ts part before now r a d p g) = part-sent m taken ts part before now r a (sent-so m taken ts d) p g
+  sent-so _ _ _ (closing m taken ts before now r a d p g) = close-sent m taken ts before now r a (sent-so m taken ts d) p g
+  sent-so _ _ _ (no-part m taken ts part before now r n vs d p g) =
+      subst (λ (x : MaskRomOperation). Sent area checked x taken ts)
+      (sym (refused-stays (partTold (r .step)) (r .next) m before now (partStep m part (length before)) n vs p g)) (sent-so m taken ts d)
+  sent-so _ _ _ (no-closing m taken ts before now r n vs d p g) =
+      subst (λ (x : MaskRomOperation). Sent area checked x taken ts)
+      (sym (refused-stays (stepTold (r .step)) (r .next) m before now (closeStep m (length before)) n vs p g)) (sent-so m taken ts d)
 
-  -- .. and parts that begin what is left not as long as the image is not shut
-  pub part-not-refused : (m : MaskRomOperation) (left : List ℕ) (ts : List Transfer) (part rest before now : List ℕ) (r : PartStepped)
-      → Reached area checked image m left ts → closed (m .steps) ≡ false → left ≡ part ++ rest → PartMeets r m part before now → blockSize ≤ length before
+  all-sent : (m : MaskRomOperation) (taken : List ℕ) (ts : List Transfer) (before now : List ℕ) (r : CloseStepped) → Sent area checked m taken ts → CloseMeets r m before now
+      → stepTold (r .step) ≡ given finish → ts ≡ transfersOf area checked taken
+  unfolding before-finish
+  all-sent m taken ts before now r (unshut m₁ taken₁ ts₁ o f) p g =
+      let clash : before-finish Writing ≡ before-finish Done = ap before-finish (sym (o .writes-on) ∙ finish-done m₁ before now r p g) in
+      absurd (omega (arith, clash))
+  all-sent m taken ts before now r (shut m₁ taken₁ ts₁ us c s e) p g =
+      sym (append-nil ts₁) ∙ ap (λ (l : List Transfer). ts₁ ++ l) (sym (finish-takes-none m₁ us before now r p g s)) ∙ e
+
+  -- DEMAND 3. Any calls at all, from the start to the finish, with any slice and any output at each: the transfers seen are those of the bytes that were
+  -- taken.
+  pub whatever-was-taken : (taken : List ℕ) (ts : List Transfer) → Uploaded area checked taken ts → ts ≡ transfersOf area checked taken
+  whatever-was-taken _ _ (uploaded m taken ts before now r d p g) = all-sent m taken ts before now r (sent-so m taken ts d) p g
+
+  -- the record counts the bytes taken, and they are never too many
+  pub counts-the-taken : (m : MaskRomOperation) (taken : List ℕ) (ts : List Transfer) → Called area checked m taken ts → (m .taken ≡ length taken) × (length taken ≤ longest)
+  counts-the-taken _ _ _ (made m e) = (ap (λ (x : MaskRomOperation). x .taken) e, omega arith)
+  counts-the-taken _ _ _ (taking m taken ts part before now r a d p g) =
+      let before-it = counts-the-taken m taken ts d in
+      let n : length (taken ++ take (takenBy a) part) ≡ length taken + length (take (takenBy a) part) = length-append taken (take (takenBy a) part) in
+      let k = length-take (takenBy a) part in
+      let t = taken-is m part before now r p a g in
+      let f = part-fits m part before now r p a g in
+      let c = taken-counted m part before now r p a g in (
+        all-counted (r .next .taken) (m .taken) (takenBy a) (length taken) (length part) (length (take (takenBy a) part)) (length (taken ++ take (takenBy a) part)) c (before-it .0) k (few-of (blockSize - waiting m) (length part) (takenBy a) t) n,
+        still-fits (m .taken) (length taken) (length part) (length (take (takenBy a) part)) (length (taken ++ take (takenBy a) part)) (takenBy a) (before-it .0) f k n,
+      )
+  counts-the-taken _ _ _ (closing m taken ts before now r a d p g) =
+      let before-it = counts-the-taken m taken ts d in (close-keeps-taken m before now r p a g ∙ before-it .0, before-it .1)
+  counts-the-taken _ _ _ (no-part m taken ts part before now r n vs d p g) =
+      let before-it = counts-the-taken m taken ts d in
+      (ap (λ (x : MaskRomOperation). x .taken) (refused-stays (partTold (r .step)) (r .next) m before now (partStep m part (length before)) n vs p g) ∙ before-it .0, before-it .1)
+  counts-the-taken _ _ _ (no-closing m taken ts before now r n vs d p g) =
+      let before-it = counts-the-taken m taken ts d in
+      (ap (λ (x : MaskRomOperation). x .taken) (refused-stays (stepTold (r .step)) (r .next) m before now (closeStep m (length before)) n vs p g) ∙ before-it .0, before-it .1)
+
+  -- before the image is shut no part is refused that is not too long, with an output of 4,096 bytes
+  pub part-not-refused : (m : MaskRomOperation) (taken : List ℕ) (ts : List Transfer) (part before now : List ℕ) (r : PartStepped) → Called area checked m taken ts
+      → closed (m .steps) ≡ false → length taken + length part ≤ longest → PartMeets r m part before now → blockSize ≤ length before
       → (a : Handed) × (partTold (r .step) ≡ given a)
-  part-not-refused m left ts part rest before now r d c e p h =
-      let o = owed m left ts d in
-      let f = owes-fits m left (o .later) (o .owes) c in
-      let n : length left ≡ length part + length rest = ap length e ∙ length-append part rest in
+  part-not-refused m taken ts part before now r d c f p h =
+      let n = counts-the-taken m taken ts d .0 in
       (takes m (take (4096 - waiting m) part) .says, part-given m part before now r p h c (omega arith))
 
-  -- it is not shut while there is something left
-  pub open-while-left : (m : MaskRomOperation) (left : List ℕ) (ts : List Transfer) → Reached area checked image m left ts → 0 < length left → closed (m .steps) ≡ false
-  open-while-left m left ts d h = let o = owed m left ts d in owes-open m left (o .later) (o .owes) h
-
--- how many calls it takes, whatever the image
-module _ (area : ℕ) (checked : Bool) (image : List ℕ) where
+  -- every call that takes something takes a byte at least, so there are no more of them than bytes were taken ..
   one-at-most : (n : ℕ) → oneOf n ≤ n
   unfolding oneOf
   one-at-most zero = omega arith
   one-at-most (suc n) = omega arith
 
-  -- every call that takes a byte leaves fewer, so there are no more of them than the image has bytes ..
-  pub taking-calls-at-most : (m : MaskRomOperation) (left : List ℕ) (ts : List Transfer) (d : Reached area checked image m left ts)
-      → takingCalls m left ts d + length left ≤ length image
-  unfolding takingCalls
-  taking-calls-at-most _ _ _ (starts m e) = omega arith
-  taking-calls-at-most _ _ _ (hands m left ts part rest before now r a d e p g) =
-      let before-it = taking-calls-at-most m left ts d in
-      let n : length left ≡ length part + length rest = ap length e ∙ length-append part rest in
-      let dropped = length-drop (takenBy a) left in
-      let t = taken-is m part before now r p a g in
-      let some = one-at-most (takenBy a) in
-      omega arith
-  taking-calls-at-most _ _ _ (closes m left ts before now r a d e p g) = taking-calls-at-most m left ts d
-  taking-calls-at-most _ _ _ (part-refused m left ts part before now r n vs d p g) = taking-calls-at-most m left ts d
-  taking-calls-at-most _ _ _ (close-refused m left ts before now r n vs d p g) = taking-calls-at-most m left ts d
+  more-taken : (t k n l y u o : ℕ) → u ≤ t → o ≤ n → k ≡ min n l → n ≤ l → y ≡ t + k → u + o ≤ y
+  more-taken t k n l y u o a b c d e = omega arith
 
-  nearer : (m : MaskRomOperation) (left : List ℕ) (ts : List Transfer) (d : Reached area checked image m left ts)
-      → before-finish (m .steps) ≤ 2 - closingSteps m left ts d
+  pub taking-calls-at-most : (m : MaskRomOperation) (taken : List ℕ) (ts : List Transfer) (d : Called area checked m taken ts) → takingCalls m taken ts d ≤ length taken
+  unfolding takingCalls
+  taking-calls-at-most _ _ _ (made m e) = omega arith
+  taking-calls-at-most _ _ _ (taking m taken ts part before now r a d p g) =
+      more-taken (length taken) (length (take (takenBy a) part)) (takenBy a) (length part) (length (taken ++ take (takenBy a) part)) (takingCalls m taken ts d) (oneOf (takenBy a))
+      (taking-calls-at-most m taken ts d) (one-at-most (takenBy a)) (length-take (takenBy a) part)
+      (few-of (blockSize - waiting m) (length part) (takenBy a) (taken-is m part before now r p a g)) (length-append taken (take (takenBy a) part))
+  taking-calls-at-most _ _ _ (closing m taken ts before now r a d p g) = taking-calls-at-most m taken ts d
+  taking-calls-at-most _ _ _ (no-part m taken ts part before now r n vs d p g) = taking-calls-at-most m taken ts d
+  taking-calls-at-most _ _ _ (no-closing m taken ts before now r n vs d p g) = taking-calls-at-most m taken ts d
+
+  nearer : (m : MaskRomOperation) (taken : List ℕ) (ts : List Transfer) (d : Called area checked m taken ts) → before-finish (m .steps) ≤ 2 - closingSteps m taken ts d
   unfolding closingSteps before-finish
-  nearer _ _ _ (starts m e) = subst (λ (x : MaskRomOperation). before-finish (x .steps) ≤ 2) (sym e) (omega arith)
-  nearer _ _ _ (hands m left ts part rest before now r a d e p g) =
-      subst (λ (x : MaskRomSteps). before-finish x ≤ 2 - closingSteps m left ts d) (sym (part-keeps m part before now r p a g)) (nearer m left ts d)
-  nearer _ _ _ (closes m left ts before now r a d e p g) =
-      let n = nearer m left ts d in
+  nearer _ _ _ (made m e) = subst (λ (x : MaskRomOperation). before-finish (x .steps) ≤ 2) (sym e) (omega arith)
+  nearer _ _ _ (taking m taken ts part before now r a d p g) =
+      subst (λ (x : MaskRomSteps). before-finish x ≤ 2 - closingSteps m taken ts d) (sym (part-keeps m part before now r p a g)) (nearer m taken ts d)
+  nearer _ _ _ (closing m taken ts before now r a d p g) =
+      let n = nearer m taken ts d in
       let c = close-nearer m before now r p a g in
       omega arith
-  nearer _ _ _ (part-refused m left ts part before now r n vs d p g) =
-      subst (λ (x : MaskRomOperation). before-finish (x .steps) ≤ 2 - closingSteps m left ts d)
-      (sym (refused-stays (partTold (r .step)) (r .next) m before now (partStep m part (length before)) n vs p g)) (nearer m left ts d)
-  nearer _ _ _ (close-refused m left ts before now r n vs d p g) =
-      subst (λ (x : MaskRomOperation). before-finish (x .steps) ≤ 2 - closingSteps m left ts d)
-      (sym (refused-stays (stepTold (r .step)) (r .next) m before now (closeStep m (length before)) n vs p g)) (nearer m left ts d)
+  nearer _ _ _ (no-part m taken ts part before now r n vs d p g) =
+      subst (λ (x : MaskRomOperation). before-finish (x .steps) ≤ 2 - closingSteps m taken ts d)
+      (sym (refused-stays (partTold (r .step)) (r .next) m before now (partStep m part (length before)) n vs p g)) (nearer m taken ts d)
+  nearer _ _ _ (no-closing m taken ts before now r n vs d p g) =
+      subst (λ (x : MaskRomOperation). before-finish (x .steps) ≤ 2 - closingSteps m taken ts d)
+      (sym (refused-stays (stepTold (r .step)) (r .next) m before now (closeStep m (length before)) n vs p g)) (nearer m taken ts d)
 
   -- .. and the third closing step that is not refused, and every later one, is answered the finish
-  pub third-closing-finishes : (m : MaskRomOperation) (left : List ℕ) (ts : List Transfer) (d : Reached area checked image m left ts) (before now : List ℕ)
-      (r : CloseStepped) (a : Asks) → 2 ≤ closingSteps m left ts d → CloseMeets r m before now → stepTold (r .step) ≡ given a → a ≡ finish
-  third-closing-finishes m left ts d before now r a two p g =
-      let n = nearer m left ts d in
+  pub third-closing-finishes : (m : MaskRomOperation) (taken : List ℕ) (ts : List Transfer) (d : Called area checked m taken ts) (before now : List ℕ)
+      (r : CloseStepped) (a : Asks) → 2 ≤ closingSteps m taken ts d → CloseMeets r m before now → stepTold (r .step) ≡ given a → a ≡ finish
+  third-closing-finishes m taken ts d before now r a two p g =
+      let n = nearer m taken ts d in
       close-at-end m before now r p a g (omega arith)
+
+-- no closing step is refused that has such an output, at any record
+pub closing-not-refused : (m : MaskRomOperation) (before now : List ℕ) (r : CloseStepped) → CloseMeets r m before now → blockSize ≤ length before
+    → (a : Asks) × (stepTold (r .step) ≡ given a)
+closing-not-refused m before now r p h = (asks (m .steps) (m .area) (length (movesAt (m .steps) (m .checked) (m .crc) (held m) .bytes)), close-given m before now r p h)

@@ -29,7 +29,8 @@ use Rattle.maskrom.specs.Code.{parted, closedWith}
 use Rattle.maskrom.proofs.Cases.{close-20, close-acts}
 use Rattle.theorems.specs.PartDriver.{Transfer}
 use Rattle.theorems.specs.AnyCaller.{PartMeets, CloseMeets, takenBy, handedSeen, askedSeen, Reached, hands, closes}
-use Rattle.theorems.proofs.AnyCaller.{part-not-refused, closing-not-refused}
+use Rattle.theorems.proofs.AnyCaller.{closing-not-refused}
+use Rattle.theorems.proofs.ImageInOrder.{slice-not-refused}
 
 pub part-told : (m : MaskRomOperation) (xs : List ℕ) (room : ℕ) → (s : PartStep) × (partTold s ≡ said (partStep m xs room))
 unfolding partStep orRefuse takes said partTold
@@ -79,7 +80,7 @@ module _ (area : ℕ) (checked : Bool) (image : List ℕ) (l : length image ≤ 
       × Reached area checked image (r .next) (drop (takenBy a) left) (ts ++ handedSeen a now)
   part-goes-on part rest c e =
       let t = part-answered m part before in
-      let g = part-not-refused area checked image l m left ts part rest before (t .1) (t .0) d c e (t .2) h in
+      let g = slice-not-refused area checked image m left ts part rest before (t .1) (t .0) d l c e (t .2) h in
       (t .0, t .1, g .0, t .2, g .1, hands m left ts part rest before (t .1) (t .0) (g .0) d e (t .2) (g .1))
 
   -- and once nothing is left, a closing step

@@ -10,7 +10,7 @@ use borrow.Author.Tests.{ne-eqb}
 use Rattle.promise.specs.Told.{Told, given, number}
 use Rattle.promise.specs.Bytes.{front}
 use Rattle.promise.specs.Does.{Does, does, said, sent, after}
-use Rattle.promise.specs.Run.{ends, End, tells, outOfSteps, endTold, Ran, counted, follow, runs}
+use Rattle.promise.specs.Run.{End, tells, outOfSteps, endTold, Ran, counted, follow, runs}
 use Rattle.promise.proofs.Resumed as resumed
 use Rattle.maskrom_transfer.specs.Moves.{blockSize}
 use Rattle.maskrom.specs.declared.MaskRomOperation.{MaskRomOperation}
@@ -28,7 +28,7 @@ use Rattle.theorems.specs.DriveTrace.{stepShows, stepTurnShows, onTurn, 
 use Rattle.theorems.proofs.StepsToFinish.{Sends, finishes, sends, front-room}
 use Rattle.theorems.proofs.PartsSend.{Open, due, still-open, close-due, two-at-most}
 use Rattle.theorems.proofs.AnyCut.{fresh-open, how-many, whole-start, started}
-use Rattle.theorems.proofs.AnyCaller.{any-caller}
+use Rattle.theorems.proofs.ImageInOrder.{any-caller}
 use Rattle.theorems.proofs.PartsOfOneSize.{parts-is-a-caller}
 use Rattle.theorems.proofs.CallsForParts.{callsAt, calls-none, calls-at-start, calls-next}
 
@@ -217,7 +217,7 @@ module _ (area : ℕ) (checked : Bool) (size : ℕ) (some : 0 < size) (image out
     pub parts-answers-0 : partBudget size (length image) ≤ budget → (r ≡ 0) × (partTrace area checked size image out budget ≡ transfersOf area checked image)
     parts-answers-0 b =
         let e = drives-to-0 budget b in
-        (meets .tells ∙ e, any-caller area checked image l (partTrace area checked size image out budget) (parts-is-a-caller area checked image size out budget e))
+        (meets .tells ∙ e, any-caller area checked image (partTrace area checked size image out budget) (parts-is-a-caller area checked image size out budget e))
 
     pub parts-answers-28 : budget < partBudget size (length image) → r ≡ 28
     parts-answers-28 f = meets .tells ∙ by-end budget f (runs (partTurn size) budget begins .end) refl

@@ -5,11 +5,11 @@ use mathlib.Core.Bool.{Bool, true, false}
 use mathlib.Core.List.{List, [], _∷_, _++_}
 use native.Mathlib.Omega.{arith}
 use native.Mathlib.Decide.{decLt, ℕ-discrete}
-use lib.ListN.{length, take, drop, length-append, length-take, take-append-drop}
-use lib.Seq.{take-append-le}
+use lib.ListN.{length, take, length-take}
 use Rattle.promise.specs.Told.{Told, given, refused}
 use lib.Dec.{eqb, ltb}
-use Rattle.promise.specs.Rules.{pick, rule, roomRule, tooShort}
+use borrow.Author.Tests.{ltb-false}
+use Rattle.promise.specs.Rules.{rule, roomRule, tooShort}
 use Rattle.promise.proofs.Outcome.{by-test, passed}
 use Rattle.promise.specs.Bytes.{front}
 use Rattle.promise.specs.Does.{Does, does, said, sent, after, Meets}
@@ -31,10 +31,10 @@ use Rattle.theorems.specs.PartDriver.{Transfer, transfer, seen}
 use Rattle.theorems.specs.AnyCaller.{PartMeets, CloseMeets, takenBy, handedSeen, askedSeen}
 use Rattle.theorems.proofs.StepsToFinish.{Sends, finishes, sends}
 use Rattle.theorems.proofs.ClosingSends.{close-done}
-use Rattle.theorems.proofs.PartsSend.{Open, due, still-open, due-some, due-full, close-due}
+use Rattle.theorems.proofs.PartsSend.{Open, due, still-open, due-some, due-full}
 
 -- a value is no refusal
-not-both : {A C : Type 0} (a : A) (n : ℕ) (vs : List ℕ) → given a ≡ refused n vs → C
+pub not-both : {A C : Type 0} (a : A) (n : ℕ) (vs : List ℕ) → given a ≡ refused n vs → C
 not-both a n vs e = absurd (let z : _≡_ {A = ℕ} 0 1 = cc in omega arith)
 
 -- a refused call leaves the record, whatever it is a call of
@@ -79,14 +79,14 @@ at-finish Check h = absurd (omega arith)
 at-finish Dummy h = absurd (omega arith)
 at-finish Done h = refl
 
-asks-finish : (s : MaskRomSteps) (area n : ℕ) → finish ≡ asks s area n → s ≡ Done
+pub asks-finish : (s : MaskRomSteps) (area n : ℕ) → finish ≡ asks s area n → s ≡ Done
 unfolding asks
 asks-finish Writing area n e = absurd (let z : _≡_ {A = ℕ} 0 1 = cc in omega arith)
 asks-finish Check area n e = absurd (let z : _≡_ {A = ℕ} 0 1 = cc in omega arith)
 asks-finish Dummy area n e = absurd (let z : _≡_ {A = ℕ} 0 1 = cc in omega arith)
 asks-finish Done area n e = refl
 
-same-given : {A : Type 0} (a b : A) → given a ≡ given b → a ≡ b
+pub same-given : {A : Type 0} (a b : A) → given a ≡ given b → a ≡ b
 same-given a b e = cc
 
 module _ (m : MaskRomOperation) (before now : List ℕ) (r : CloseStepped) (meets : CloseMeets r m before now) where
@@ -119,6 +119,13 @@ module _ (m : MaskRomOperation) (before now : List ℕ) (r : CloseStepped) (meet
         (sym (meets .next ∙ ap (after m) (close-acts m (length before) close-long)))
         (moves-shut (m .steps) (m .checked) (m .crc) (held m) short)
 
+    pub close-keeps-taken : r .next .taken ≡ m .taken
+    unfolding after
+    close-keeps-taken = ap (λ (x : MaskRomOperation). x .taken) (meets .next ∙ ap (after m) (close-acts m (length before) close-long))
+
+    pub close-unopens : closed (r .next .steps) ≡ true
+    close-unopens = close-shuts .shut
+
     pub close-nearer : before-finish (r .next .steps) ≤ before-finish (m .steps) - 1
     close-nearer = close-shuts .nearer
 
@@ -131,23 +138,19 @@ module _ (m : MaskRomOperation) (before now : List ℕ) (r : CloseStepped) (meet
   pub finish-done : stepTold (r .step) ≡ given finish → m .steps ≡ Done
   finish-done g = asks-finish (m .steps) (m .area) (length (to .bytes)) (close-asks finish g)
 
--- what is still to be sent, with `left` of the image to come
-pub data Owes : MaskRomOperation → List ℕ → List Transfer → Type 0 where
-  still : (m : MaskRomOperation) (left : List ℕ) → Open m → m .taken + length left ≤ longest → Owes m left (due m left)
-  shut : (m : MaskRomOperation) (us : List Transfer) → closed (m .steps) ≡ true → Sends closeStep m us → Owes m [] us
-
-close-sent : (m : MaskRomOperation) (us : List Transfer) (before now : List ℕ) (r : CloseStepped) (meets : CloseMeets r m before now) (a : Asks)
-    → (g : stepTold (r .step) ≡ given a) → Sends closeStep m us → (later : List Transfer) × (us ≡ askedSeen a now ++ later) × Owes (r .next) [] later
+-- it takes the first transfer of those that are due
+pub close-takes : (m : MaskRomOperation) (us : List Transfer) (before now : List ℕ) (r : CloseStepped) (meets : CloseMeets r m before now) (a : Asks)
+    → (g : stepTold (r .step) ≡ given a) → Sends closeStep m us → (later : List Transfer) × (us ≡ askedSeen a now ++ later) × Sends closeStep (r .next) later
 unfolding askedSeen said sent after before-finish
-close-sent m us before now r meets a g (finishes m₁ m₂ e) =
+close-takes m us before now r meets a g (finishes m₁ m₂ e) =
     let s = e (length before) (close-long m₁ before now r meets a g) in
     let is : a ≡ finish = same-given a finish (sym g ∙ meets .tells ∙ ap said s) in
     let near = close-nearer m₁ before now r meets a g in
     let here : m₁ .steps ≡ Done = finish-done m₁ before now r meets (g ∙ ap given is) in
     let zero-here : before-finish (m₁ .steps) ≡ 0 = ap before-finish here in
     let there : r .next .steps ≡ Done = at-finish (r .next .steps) (omega arith) in
-    ([], ap (λ (x : Asks). askedSeen x now ++ []) (sym is), shut (r .next) [] (close-shuts m₁ before now r meets a g .shut) (close-done (r .next) there))
-close-sent m us before now r meets a g (sends m₁ m₂ area bs ts b e s) =
+    ([], ap (λ (x : Asks). askedSeen x now ++ []) (sym is), close-done (r .next) there)
+close-takes m us before now r meets a g (sends m₁ m₂ area bs ts b e s) =
     let step = e (length before) (close-long m₁ before now r meets a g) in
     let is : a ≡ writes (control area (length bs)) = same-given a (writes (control area (length bs))) (sym g ∙ meets .tells ∙ ap said step) in
     let left-so : now ≡ front bs before = meets .leaves ∙ ap (λ (t : Told (Does Asks MaskRomOperation)). front (sent t) before) step in
@@ -155,15 +158,20 @@ close-sent m us before now r meets a g (sends m₁ m₂ area bs ts b e s) =
       ts,
       ap (λ (l : List ℕ). record { setup = control area (length bs); bytes = l } ∷ ts) (sym (ap (take (length bs)) left-so ∙ front-seen bs before))
           ∙ ap (λ (x : Asks). askedSeen x now ++ ts) (sym is),
-      shut (r .next) ts (close-shuts m₁ before now r meets a g .shut) (subst (λ (x : MaskRomOperation). Sends closeStep x ts) (sym next-is) s),
+      subst (λ (x : MaskRomOperation). Sends closeStep x ts) (sym next-is) s,
     )
 
--- a closing step that is not refused takes the first transfer of those that are due
-pub close-takes : (m : MaskRomOperation) (left : List ℕ) (us : List Transfer) (before now : List ℕ) (r : CloseStepped) (a : Asks) → Owes m left us → left ≡ []
-    → CloseMeets r m before now → stepTold (r .step) ≡ given a → (later : List Transfer) × (us ≡ askedSeen a now ++ later) × Owes (r .next) [] later
-close-takes m left us before now r a (still m₁ left₁ o l) e meets g =
-    close-sent m₁ (due m₁ left₁) before now r meets a g (subst (λ (l : List ℕ). Sends closeStep m₁ (due m₁ l)) (sym e) (close-due m₁ o))
-close-takes m left us before now r a (shut m₁ us₁ c s) e meets g = close-sent m₁ us₁ before now r meets a g s
+pub writes-finish : (c : Control) → given (writes c) ≡ given finish → ⊥
+writes-finish c e = let z : _≡_ {A = ℕ} 0 1 = cc in omega arith
+
+-- where the finish is answered none are due
+pub finish-takes-none : (m : MaskRomOperation) (us : List Transfer) (before now : List ℕ) (r : CloseStepped) → CloseMeets r m before now → stepTold (r .step) ≡ given finish
+    → Sends closeStep m us → us ≡ []
+unfolding said
+finish-takes-none m us before now r meets g (finishes m₁ m₂ e) = refl
+finish-takes-none m us before now r meets g (sends m₁ m₂ area bs ts b e s) =
+    let step = e (length before) (close-long m₁ before now r meets finish g) in
+    absurd (writes-finish (control area (length bs)) (sym (ap said step) ∙ sym (meets .tells) ∙ g))
 
 -- parts
 
@@ -185,25 +193,32 @@ module _ (m : MaskRomOperation) (part before now : List ℕ) (r : PartStepped) (
   part-given h c l = meets .tells ∙ ap said (part-takes m part (length before) h c l)
 
   module _ (a : Handed) (g : partTold (r .step) ≡ given a) where
-    part-passed : (closed (m .steps) ≡ false) × (partStep m part (length before) ≡ given (takes m ys))
+    part-passed : (closed (m .steps) ≡ false) × (ltb longest (m .taken + length part) ≡ false) × (partStep m part (length before) ≡ given (takes m ys))
     unfolding partStep said
     part-passed =
         let p = passed said refused (λ n vs. refl)
         (roomRule (length before) blockSize ∷ rule (closed (m .steps)) closedAlready [] ∷ rule (ltb longest (m .taken + length part)) tooLong [] ∷ [])
         (given (takes m ys)) a (sym (meets .tells) ∙ g) in
-        (p .0 .1 .0, p .1)
+        (p .0 .1 .0, p .0 .1 .1 .0, p .1)
 
     part-says : a ≡ takes m ys .says
     unfolding said
-    part-says = same-given a (takes m ys .says) (sym g ∙ meets .tells ∙ ap said (part-passed .1))
+    part-says = same-given a (takes m ys .says) (sym g ∙ meets .tells ∙ ap said (part-passed .2))
 
     part-becomes : r .next ≡ takes m ys .becomes
     unfolding after
-    part-becomes = meets .next ∙ ap (after m) (part-passed .1)
+    part-becomes = meets .next ∙ ap (after m) (part-passed .2)
 
     part-leaves : now ≡ front (takes m ys .sends) before
     unfolding sent
-    part-leaves = meets .leaves ∙ ap (λ (t : Told (Does Handed MaskRomOperation)). front (sent t) before) (part-passed .1)
+    part-leaves = meets .leaves ∙ ap (λ (t : Told (Does Handed MaskRomOperation)). front (sent t) before) (part-passed .2)
+
+    -- only an upload that is not shut takes parts, and none too long
+    pub part-unshut : closed (m .steps) ≡ false
+    part-unshut = part-passed .0
+
+    pub part-fits : m .taken + length part ≤ longest
+    part-fits = ltb-false longest (m .taken + length part) (part-passed .1)
 
     -- the bytes that are taken: as many as the block has room for, of those that are handed over
     pub taken-is : takenBy a ≡ min (blockSize - waiting m) (length part)
@@ -220,80 +235,47 @@ module _ (m : MaskRomOperation) (part before now : List ℕ) (r : PartStepped) (
         ap (λ (x : MaskRomOperation). x .steps) part-becomes
         ∙ by-test (λ (d : Does Handed MaskRomOperation). d .becomes .steps ≡ m .steps) (eqb (waiting m + length ys) blockSize) (λ e. refl) (λ e. refl)
 
-    module _ (left rest : List ℕ) (e : left ≡ part ++ rest) where
-      abbrev zs : List ℕ
-      zs = drop (length ys) left
+    -- they are the first of the part
+    pub taken-first : take (takenBy a) part ≡ ys
+    taken-first = ap (λ (n : ℕ). take n part) taken-is ∙ take-min (4096 - waiting m) part
 
-      both : ys ++ zs ≡ left
-      both =
-          let same : take (length ys) left ≡ ys =
-          ap (take (length ys)) e ∙ take-append-le (length ys) part rest (omega (arith, many)) ∙ ap (λ (n : ℕ). take n part) many ∙ take-min (4096 - waiting m) part in
-          ap (λ (l : List ℕ). l ++ zs) (sym same) ∙ take-append-drop (length ys) left
+    next-holds : r .next ≡ holding m ys
+    unfolding takes
+    next-holds =
+        part-becomes
+        ∙ by-test (λ (d : Does Handed MaskRomOperation). d .becomes ≡ holding m ys) (eqb (waiting m + length ys) blockSize) (λ e. refl) (λ e. refl)
 
-      dropped : drop (takenBy a) left ≡ zs
-      dropped = ap (λ (n : ℕ). drop n left) (ap takenBy part-says ∙ takes-count m ys)
+    pub taken-counted : r .next .taken ≡ m .taken + takenBy a
+    taken-counted = ap (λ (x : MaskRomOperation). x .taken) next-holds ∙ ap (λ (n : ℕ). m .taken + n) (sym (ap takenBy part-says ∙ takes-count m ys))
 
-      module _ (o : Open m) (l : m .taken + length left ≤ longest) where
-        owes-next : Owes (holding m ys) zs (due (holding m ys) zs)
-        owes-next =
-            let few : waiting m + length ys ≤ 4096 = omega (arith, many) in
-            let n : length ys + length zs ≡ length left = sym (length-append ys zs) ∙ ap length both in
-            still (holding m ys) zs (still-open m o ys zs few) (omega (arith, n))
+    shows : (d : Does Handed MaskRomOperation) → takes m ys ≡ d → handedSeen (d .says) (front (d .sends) before) ≡ handedSeen a now
+    shows d t =
+        ap₂ handedSeen (ap (λ (x : Does Handed MaskRomOperation). x .says) (sym t) ∙ sym part-says)
+        (ap (λ (x : Does Handed MaskRomOperation). front (x .sends) before) (sym t) ∙ sym part-leaves)
 
-        -- what holds of the record and of what is left once the bytes are taken
-        arrives : (d : Does Handed MaskRomOperation) → takes m ys ≡ d → d .becomes ≡ holding m ys → due m left ≡ handedSeen (d .says) (front (d .sends) before) ++ due (holding m ys) zs
-            → (later : List Transfer) × (due m left ≡ handedSeen a now ++ later) × Owes (r .next) (drop (takenBy a) left) later
-        arrives d t b f =
-            let is : a ≡ d .says = part-says ∙ ap (λ (x : Does Handed MaskRomOperation). x .says) t in
-            let out-is : now ≡ front (d .sends) before = part-leaves ∙ ap (λ (x : Does Handed MaskRomOperation). front (x .sends) before) t in
-            let next-is : r .next ≡ holding m ys = part-becomes ∙ ap (λ (x : Does Handed MaskRomOperation). x .becomes) t ∙ b in (
-              due (holding m ys) zs,
-              f ∙ ap₂ (λ (x : Handed) (out : List ℕ). handedSeen x out ++ due (holding m ys) zs) (sym is) (sym out-is),
-              subst (λ (x : MaskRomOperation). Owes x (drop (takenBy a) left) (due (holding m ys) zs)) (sym next-is)
-                  (subst (λ (x : List ℕ). Owes (holding m ys) x (due (holding m ys) zs)) (sym dropped) owes-next),
-            )
+    module _ (o : Open m) where
+      pub part-open : Open (r .next)
+      part-open =
+          let few : waiting m + length ys ≤ 4096 = omega (arith, many) in
+          subst Open (sym next-holds) (still-open m o ys [] few)
 
-        by-room : Dec (waiting m + length ys < 4096) → (later : List Transfer) × (due m left ≡ handedSeen a now ++ later) × Owes (r .next) (drop (takenBy a) left) later
-        unfolding handedSeen
-        by-room (yes s) =
-            arrives (does (took (length ys)) [] (holding m ys)) (takes-some m ys s) refl (ap (due m) (sym both) ∙ due-some m o ys zs s)
-        by-room (no s) =
-            let full : waiting m + length ys ≡ 4096 = omega (arith, many) in
-            let b = held m ++ ys in
-            let n : length b ≡ 4096 = filled-length (m .block) (waiting m) ys (o .block-long) full in
-            let bytes-seen : take 4096 (front b before) ≡ b = ap (λ (k : ℕ). take k (front b before)) (sym n) ∙ front-seen b before in
-            let seen-is : transfer (m .area) b ≡ seen (control (m .area) 4096) (front b before) =
-            ap₂ (λ (k : ℕ) (bs : List ℕ). record { setup = control (m .area) k; bytes = bs }) n (sym bytes-seen) in
-            arrives (does (filled (length ys) (control (m .area) 4096)) b (holding m ys)) (takes-full m ys full) refl
-            (ap (due m) (sym both) ∙ due-full m o ys zs full ∙ ap (λ (t : Transfer). t ∷ due (holding m ys) zs) seen-is)
+      due-by : (xs : List ℕ) → Dec (waiting m + length ys < 4096) → due m (ys ++ xs) ≡ handedSeen a now ++ due (r .next) xs
+      unfolding handedSeen
+      due-by xs (yes s) =
+          due-some m o ys xs s
+          ∙ ap₂ (λ (l : List Transfer) (x : MaskRomOperation). l ++ due x xs) (shows (does (took (length ys)) [] (holding m ys)) (takes-some m ys s)) (sym next-holds)
+      due-by xs (no s) =
+          let full : waiting m + length ys ≡ 4096 = omega (arith, many) in
+          let b = held m ++ ys in
+          let n : length b ≡ 4096 = filled-length (m .block) (waiting m) ys (o .block-long) full in
+          let bytes-seen : take 4096 (front b before) ≡ b = ap (λ (k : ℕ). take k (front b before)) (sym n) ∙ front-seen b before in
+          let seen-is : transfer (m .area) b ≡ seen (control (m .area) 4096) (front b before) =
+          ap₂ (λ (k : ℕ) (bs : List ℕ). record { setup = control (m .area) k; bytes = bs }) n (sym bytes-seen) in
+          due-full m o ys xs full
+          ∙ ap (λ (t : Transfer). t ∷ due (holding m ys) xs) seen-is
+          ∙ ap₂ (λ (l : List Transfer) (x : MaskRomOperation). l ++ due x xs)
+          (shows (does (filled (length ys) (control (m .area) 4096)) b (holding m ys)) (takes-full m ys full)) (sym next-holds)
 
--- a part that is not refused and begins what is left takes the front of it, and the first transfer of those that are due where it fills the block
-pub part-takes-due : (m : MaskRomOperation) (left : List ℕ) (us : List Transfer) (part rest before now : List ℕ) (r : PartStepped) (a : Handed) → Owes m left us
-    → left ≡ part ++ rest → PartMeets r m part before now → partTold (r .step) ≡ given a
-    → (later : List Transfer) × (us ≡ handedSeen a now ++ later) × Owes (r .next) (drop (takenBy a) left) later
-part-takes-due m left us part rest before now r a (still m₁ left₁ o l) e meets g =
-    by-room m₁ part before now r meets a g left₁ rest e o l (decLt (waiting m₁ + length (take (4096 - waiting m₁) part)) 4096)
-part-takes-due m left us part rest before now r a (shut m₁ us₁ c s) e meets g =
-    let clash : true ≡ false = sym c ∙ part-passed m₁ part before now r meets a g .0 in
-    absurd (let z : _≡_ {A = ℕ} 0 1 = ap (λ (b : Bool). pick b 0 1) clash in omega arith)
-
--- whoever is answered the finish has nothing left to hand over, and nothing more is to be sent
-
-writes-finish : (c : Control) → given (writes c) ≡ given finish → ⊥
-writes-finish c e = let z : _≡_ {A = ℕ} 0 1 = cc in omega arith
-
-none-due : (m : MaskRomOperation) (us : List Transfer) (before now : List ℕ) (r : CloseStepped) → CloseMeets r m before now → stepTold (r .step) ≡ given finish
-    → Sends closeStep m us → us ≡ []
-unfolding said
-none-due m us before now r meets g (finishes m₁ m₂ e) = refl
-none-due m us before now r meets g (sends m₁ m₂ area bs ts b e s) =
-    let step = e (length before) (close-long m₁ before now r meets finish g) in
-    absurd (writes-finish (control area (length bs)) (sym (ap said step) ∙ sym (meets .tells) ∙ g))
-
-pub finish-owes-none : (m : MaskRomOperation) (left : List ℕ) (us : List Transfer) (before now : List ℕ) (r : CloseStepped) → Owes m left us
-    → CloseMeets r m before now → stepTold (r .step) ≡ given finish → (left ≡ []) × (us ≡ [])
-unfolding before-finish
-finish-owes-none m left us before now r (still m₁ left₁ o l) meets g =
-    let clash : before-finish Writing ≡ before-finish Done = ap before-finish (sym (o .writes-on) ∙ finish-done m₁ before now r meets g) in
-    absurd (omega (arith, clash))
-finish-owes-none m left us before now r (shut m₁ us₁ c s) meets g = (refl, none-due m₁ us₁ before now r meets g s)
+      -- the bytes taken are due no more, and neither is the transfer that they filled
+      pub part-takes-due : (xs : List ℕ) → due m (take (takenBy a) part ++ xs) ≡ handedSeen a now ++ due (r .next) xs
+      part-takes-due xs = ap (λ (l : List ℕ). due m (l ++ xs)) taken-first ∙ due-by xs (decLt (waiting m + length ys) 4096)

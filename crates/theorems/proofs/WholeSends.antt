@@ -38,7 +38,7 @@ module _ (image : List ℕ) where
       ∙ ap₂ (λ (x : MaskRomSteps) (y : Moves). given (does (asks x (u .area) (length (y .bytes))) (y .bytes) (sentOn u (length w) (y .crc) (y .steps))))
       e (ap₂ (λ (x : MaskRomSteps) (y : ℕ). movesAt x (u .checked) y w) e k ∙ t)
 
-  done : (u : WholeUpload) → length image ≡ u .length → u .steps ≡ Done → Sends step u []
+  pub done : (u : WholeUpload) → length image ≡ u .length → u .steps ≡ Done → Sends step u []
   unfolding asks movesAt most
   done u l e =
       finishes u (sentOn u 0 (u .crc) Done)

@@ -1,17 +1,21 @@
--- Any caller of a part-wise upload, over what its functions promise. He sees answers and output alone, lends any output at each call, and does with it
--- what he likes between two calls.
+-- Any caller of an upload, over what its functions promise. He sees answers and output alone, lends any output at each call, and does with it what he
+-- likes between two calls.
 use Prim.Native.Nat.{ℕ, zero, suc, _+_}
 use mathlib.Core.Path.{_≡_}
 use mathlib.Core.Bool.{Bool}
 use mathlib.Core.List.{List, [], _∷_, _++_}
-use lib.ListN.{length, drop}
+use lib.ListN.{length, take, drop}
 use Rattle.promise.specs.Told.{given, refused}
 use Rattle.promise.specs.Does.{Meets}
 use Rattle.maskrom.specs.declared.MaskRomOperation.{MaskRomOperation}
 use Rattle.maskrom.specs.declared.PartStepped.{PartStepped}
 use Rattle.maskrom.specs.declared.CloseStepped.{CloseStepped}
-use Rattle.maskrom.specs.Answers.{Handed, took, filled, Asks, writes, finish, partTold, stepTold}
+use Rattle.maskrom.specs.declared.WholeUpload.{WholeUpload}
+use Rattle.maskrom.specs.declared.WholeStart.{WholeStart}
+use Rattle.maskrom.specs.declared.WholeStepped.{WholeStepped}
+use Rattle.maskrom.specs.Answers.{Handed, took, filled, Asks, writes, finish, partTold, stepTold, startTold}
 use Rattle.maskrom.specs.PartWise.{fresh, partStep, closeStep}
+use Rattle.maskrom.specs.Whole.{StartMeets, wholeStep}
 use Rattle.theorems.specs.PartDriver.{Transfer, seen}
 
 -- what `MaskRomOperation::part` and `MaskRomOperation::close` promise of an answer, with the output before and after the call
@@ -34,8 +38,52 @@ unfoldable pub askedSeen : Asks → List ℕ → List Transfer
 askedSeen (writes c) out = seen c out ∷ []
 askedSeen finish out = []
 
--- where any calls can bring a caller who has this image to upload: to a record, with `left` of the image to be handed over yet, and these transfers
--- seen
+-- where any calls at all can bring a caller of a part-wise upload: to a record, with these bytes taken, by the counts of the answers, and these
+-- transfers seen
+pub data Called (area : ℕ) (checked : Bool) : MaskRomOperation → List ℕ → List Transfer → Type 0 where
+  -- `MaskRomOperation::new`, or `new_no_crc`
+  made : (m : MaskRomOperation) → m ≡ fresh area checked → Called area checked m [] []
+  -- a part, or a closing step, that is not refused
+  taking : (m : MaskRomOperation) (taken : List ℕ) (ts : List Transfer) (part before now : List ℕ) (r : PartStepped) (a : Handed)
+      → Called area checked m taken ts → PartMeets r m part before now → partTold (r .step) ≡ given a
+      → Called area checked (r .next) (taken ++ take (takenBy a) part) (ts ++ handedSeen a now)
+  closing : (m : MaskRomOperation) (taken : List ℕ) (ts : List Transfer) (before now : List ℕ) (r : CloseStepped) (a : Asks)
+      → Called area checked m taken ts → CloseMeets r m before now → stepTold (r .step) ≡ given a
+      → Called area checked (r .next) taken (ts ++ askedSeen a now)
+  -- a call that is refused
+  no-part : (m : MaskRomOperation) (taken : List ℕ) (ts : List Transfer) (part before now : List ℕ) (r : PartStepped) (n : ℕ) (vs : List ℕ)
+      → Called area checked m taken ts → PartMeets r m part before now → partTold (r .step) ≡ refused n vs → Called area checked (r .next) taken ts
+  no-closing : (m : MaskRomOperation) (taken : List ℕ) (ts : List Transfer) (before now : List ℕ) (r : CloseStepped) (n : ℕ) (vs : List ℕ)
+      → Called area checked m taken ts → CloseMeets r m before now → stepTold (r .step) ≡ refused n vs → Called area checked (r .next) taken ts
+
+-- he went on until he was answered the finish
+pub data Uploaded (area : ℕ) (checked : Bool) : List ℕ → List Transfer → Type 0 where
+  uploaded : (m : MaskRomOperation) (taken : List ℕ) (ts : List Transfer) (before now : List ℕ) (r : CloseStepped)
+      → Called area checked m taken ts → CloseMeets r m before now → stepTold (r .step) ≡ given finish → Uploaded area checked taken ts
+
+-- how many of his calls took a byte at least, and how many closing steps were not refused
+unfoldable pub oneOf : ℕ → ℕ
+oneOf zero = 0
+oneOf (suc n) = 1
+
+unfoldable pub takingCalls : {area : ℕ} {checked : Bool} (m : MaskRomOperation) (taken : List ℕ) (ts : List Transfer) → Called area checked m taken ts → ℕ
+takingCalls _ _ _ (made m e) = 0
+takingCalls _ _ _ (taking m taken ts part before now r a d p g) = takingCalls m taken ts d + oneOf (takenBy a)
+takingCalls _ _ _ (closing m taken ts before now r a d p g) = takingCalls m taken ts d
+takingCalls _ _ _ (no-part m taken ts part before now r n vs d p g) = takingCalls m taken ts d
+takingCalls _ _ _ (no-closing m taken ts before now r n vs d p g) = takingCalls m taken ts d
+
+unfoldable pub closingSteps : {area : ℕ} {checked : Bool} (m : MaskRomOperation) (taken : List ℕ) (ts : List Transfer) → Called area checked m taken ts → ℕ
+closingSteps _ _ _ (made m e) = 0
+closingSteps _ _ _ (taking m taken ts part before now r a d p g) = closingSteps m taken ts d
+closingSteps _ _ _ (closing m taken ts before now r a d p g) = closingSteps m taken ts d + 1
+closingSteps _ _ _ (no-part m taken ts part before now r n vs d p g) = closingSteps m taken ts d
+closingSteps _ _ _ (no-closing m taken ts before now r n vs d p g) = closingSteps m taken ts d
+
+-- a caller who has an image to upload
+
+-- where his calls can bring him: to a record, with `left` of the image to be handed over yet, and these transfers seen. Of calls that are refused nothing
+-- is asked.
 pub data Reached (area : ℕ) (checked : Bool) (image : List ℕ) : MaskRomOperation → List ℕ → List Transfer → Type 0 where
   -- `MaskRomOperation::new`, or `new_no_crc`: all of the image is left
   starts : (m : MaskRomOperation) → m ≡ fresh area checked → Reached area checked image m image []
@@ -60,23 +108,17 @@ pub data Finishes (area : ℕ) (checked : Bool) (image : List ℕ) : List Transf
   finishes : (m : MaskRomOperation) (left : List ℕ) (ts : List Transfer) (before now : List ℕ) (r : CloseStepped)
       → Reached area checked image m left ts → CloseMeets r m before now → stepTold (r .step) ≡ given finish → Finishes area checked image ts
 
--- how many of his calls took a byte at least, and how many closing steps were not refused
-unfoldable pub oneOf : ℕ → ℕ
-oneOf zero = 0
-oneOf (suc n) = 1
+-- any caller of a whole upload, who lends its image at every step
 
-unfoldable pub takingCalls : {area : ℕ} {checked : Bool} {image : List ℕ} (m : MaskRomOperation) (left : List ℕ) (ts : List Transfer)
-    → Reached area checked image m left ts → ℕ
-takingCalls _ _ _ (starts m e) = 0
-takingCalls _ _ _ (hands m left ts part rest before now r a d e p g) = takingCalls m left ts d + oneOf (takenBy a)
-takingCalls _ _ _ (closes m left ts before now r a d e p g) = takingCalls m left ts d
-takingCalls _ _ _ (part-refused m left ts part before now r n vs d p g) = takingCalls m left ts d
-takingCalls _ _ _ (close-refused m left ts before now r n vs d p g) = takingCalls m left ts d
+abbrev pub StepMeets : WholeStepped → WholeUpload → List ℕ → List ℕ → List ℕ → Type 0
+StepMeets r u image before now = Meets (stepTold (r .step)) (r .next) before now u (wholeStep u image (length before))
 
-unfoldable pub closingSteps : {area : ℕ} {checked : Bool} {image : List ℕ} (m : MaskRomOperation) (left : List ℕ) (ts : List Transfer)
-    → Reached area checked image m left ts → ℕ
-closingSteps _ _ _ (starts m e) = 0
-closingSteps _ _ _ (hands m left ts part rest before now r a d e p g) = closingSteps m left ts d
-closingSteps _ _ _ (closes m left ts before now r a d e p g) = closingSteps m left ts d + 1
-closingSteps _ _ _ (part-refused m left ts part before now r n vs d p g) = closingSteps m left ts d
-closingSteps _ _ _ (close-refused m left ts before now r n vs d p g) = closingSteps m left ts d
+-- where his calls can bring him: to a record, with these transfers seen. A step that is refused may have been lent anything.
+pub data Stepped (area : ℕ) (checked : Bool) (image : List ℕ) : WholeUpload → List Transfer → Type 0 where
+  -- `write_area`, or `write_area_no_crc`
+  begun : (r : WholeStart) → StartMeets r area checked image → startTold (r .start) ≡ given tt → Stepped area checked image (r .upload) []
+  stepping : (u : WholeUpload) (ts : List Transfer) (before now : List ℕ) (r : WholeStepped) (a : Asks)
+      → Stepped area checked image u ts → StepMeets r u image before now → stepTold (r .step) ≡ given a
+      → Stepped area checked image (r .next) (ts ++ askedSeen a now)
+  no-step : (u : WholeUpload) (ts : List Transfer) (other before now : List ℕ) (r : WholeStepped) (n : ℕ) (vs : List ℕ)
+      → Stepped area checked image u ts → StepMeets r u other before now → stepTold (r .step) ≡ refused n vs → Stepped area checked image (r .next) ts
