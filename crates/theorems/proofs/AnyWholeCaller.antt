@@ -22,7 +22,7 @@ use Rattle.maskrom.specs.Whole.{freshWhole, startStep, StartMeets, most, sentOn
 use Rattle.maskrom.proofs.Cases.{whole-20}
 use Rattle.maskrom.proofs.Writes.{front-seen}
 use Rattle.theorems.specs.PartDriver.{Transfer, transfersOf}
-use Rattle.theorems.specs.AnyCaller.{askedSeen, StepMeets, Stepped, begun, stepping, no-step}
+use Rattle.theorems.specs.AnyCaller.{askedSeen, StepMeets, Stepped, begun, stepping, no-step, WholeFinishes, whole-finishes}
 use Rattle.theorems.proofs.StepsToFinish.{Sends, finishes, sends}
 use Rattle.theorems.proofs.BehindTheImage.{register-empty}
 use Rattle.theorems.proofs.WholeSends.{whole-goes, done}
@@ -106,7 +106,7 @@ module _ (image : List ℕ) where
     long : length image ≡ u .length
 
   module _ (area : ℕ) (checked : Bool) where
-    too-long : longest < length image → said (startStep area checked image) ≡ refused tooLong []
+    pub too-long : longest < length image → said (startStep area checked image) ≡ refused tooLong []
     unfolding startStep orRefuse said
     too-long h = rw (lt-ltb longest (length image) h) refl
 
@@ -148,9 +148,8 @@ module _ (image : List ℕ) where
         }
 
     -- who is answered the finish of a whole upload has seen the same list as who is answered it part by part (`any-caller`)
-    pub any-whole-caller : (u : WholeUpload) (ts : List Transfer) (before now : List ℕ) (r : WholeStepped) → Stepped area checked image u ts → StepMeets r u image before now
-        → stepTold (r .step) ≡ given finish → ts ≡ transfersOf area checked image
-    any-whole-caller u ts before now r d p g =
+    pub any-whole-caller : (ts : List Transfer) → WholeFinishes area checked image ts → ts ≡ transfersOf area checked image
+    any-whole-caller _ (whole-finishes u ts before now r d p g) =
         let s = sending-so u ts d in
         sym (append-nil ts) ∙ ap (λ (x : List Transfer). ts ++ x) (sym (whole-takes-none u (s .later) before now r (s .due) p g)) ∙ s .total
 

@@ -50,7 +50,7 @@ part-answered m xs before =
     let s = part-told m xs (length before) in
     (parted (s .0) (after m t), front (sent t) before, record { tells = s .1; next = refl; leaves = refl })
 
-asked-told : (s : MaskRomSteps) (area n : ℕ) → (x : UploadStep) × (stepTold x ≡ given (asks s area n))
+pub asked-told : (s : MaskRomSteps) (area n : ℕ) → (x : UploadStep) × (stepTold x ≡ given (asks s area n))
 unfolding asks stepTold
 asked-told Writing area n = (upload.WriteControl (control area n), refl)
 asked-told Check area n = (upload.WriteControl (control area n), refl)

@@ -1,9 +1,10 @@
 -- An image handed over to its end: `CutIntoTransfers` has how its bytes are cut, `BehindTheImage` what follows it, `StepsToFinish` how a record is
 -- stepped to its finish, `ClosingSends`, `WholeSends` and `PartsSend` what a record has still to send, `AnyCut` that any cut gives the same
 -- transfers, `OneCall` what one call takes of what is to be sent, `AnyCaller` that any caller sees the transfers of what was taken, `ImageInOrder` that
--- who hands over an image in order sees the image's, `CallsAnswered` that he can go on, `ListsOfParts` and `PartsOfOneSize` that the driver and the
--- upload by parts that C and Rust link are such callers, `CallsForParts` how many calls that upload takes, `DrivenToTheEnd` what it and the whole one
--- answer, `UploadExamples` examples P3 to P8 of the rules, `EveryStep` what holds at every record.
+-- who hands over an image in order sees the image's, `AnyWholeCaller` the same of the whole upload, `CallsAnswered` that a caller can go on.
+-- Three of these callers: `ListsOfParts` has the driver, `PartsOfOneSize` and `LinkedWhole` the two uploads that C and Rust link, `CallsForParts` how many
+-- calls the first of them takes, `DrivenToTheEnd` what they answer. `UploadExamples` has examples P3 to P8 of the rules, `EveryStep` what holds at every
+-- record.
 -- A run of an upload: `UploadTransfers` has its control writes, `UploadSteps` how many steps it takes, `UploadRefusals` which refusals it can meet,
 -- `TwoWritesAreOne` that two writes to an area are one, `UploadLands` what the upload leaves, `UploadKeeps` what it keeps.
 -- A run of an operation: `OperationSteps` has how many steps it takes, `SectorsLand` what it leaves of flash and data, `CallsByTurn` that a bulk call
@@ -28,6 +29,7 @@ pub mod AnyWholeCaller
 pub mod CallsAnswered
 pub mod ListsOfParts
 pub mod PartsOfOneSize
+pub mod LinkedWhole
 pub mod CallsForParts
 pub mod DrivenToTheEnd
 pub mod UploadExamples

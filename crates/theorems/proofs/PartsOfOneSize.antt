@@ -40,7 +40,7 @@ part-number part.OutputTooShort n vs e = let z : 20 ≡ n = cc in omega arith
 part-number part.AlreadyClosed n vs e = let z : 26 ≡ n = cc in omega arith
 part-number part.ImageTooLong n vs e = let z : 25 ≡ n = cc in omega arith
 
-step-number : (s : UploadStep) (n : ℕ) (vs : List ℕ) → stepTold s ≡ refused n vs → 0 < n
+pub step-number : (s : UploadStep) (n : ℕ) (vs : List ℕ) → stepTold s ≡ refused n vs → 0 < n
 unfolding stepTold
 step-number (upload.WriteControl c) n vs e = absurd (let z : _≡_ {A = ℕ} 0 1 = cc in omega arith)
 step-number upload.Finished n vs e = absurd (let z : _≡_ {A = ℕ} 0 1 = cc in omega arith)

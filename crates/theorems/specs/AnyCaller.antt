@@ -122,3 +122,8 @@ pub data Stepped (area : ℕ) (checked : Bool) (image : List ℕ) : WholeUpload 
       → Stepped area checked image (r .next) (ts ++ askedSeen a now)
   no-step : (u : WholeUpload) (ts : List Transfer) (other before now : List ℕ) (r : WholeStepped) (n : ℕ) (vs : List ℕ)
       → Stepped area checked image u ts → StepMeets r u other before now → stepTold (r .step) ≡ refused n vs → Stepped area checked image (r .next) ts
+
+-- he went on until he was answered the finish, and has seen these transfers
+pub data WholeFinishes (area : ℕ) (checked : Bool) (image : List ℕ) : List Transfer → Type 0 where
+  whole-finishes : (u : WholeUpload) (ts : List Transfer) (before now : List ℕ) (r : WholeStepped)
+      → Stepped area checked image u ts → StepMeets r u image before now → stepTold (r .step) ≡ given finish → WholeFinishes area checked image ts
