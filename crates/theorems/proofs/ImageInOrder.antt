@@ -1,7 +1,7 @@
 -- A caller who hands over an image in order, any slice that begins what is left at each call, and closes once nothing is left: what was taken is the
 -- image, and so the transfers that he sees are those of the whole image.
 use Prim.Native.Nat.{ℕ, _+_, _-_, _/_, _<_, _≤_}
-use mathlib.Core.Path.{_≡_, refl, ap, sym, _∙_}
+use mathlib.Core.Path.{_≡_, refl, ap, sym, _∙_, subst}
 use mathlib.Core.Bool.{Bool, true, false}
 use mathlib.Core.List.{List, [], _++_, append-nil, append-assoc}
 use native.Mathlib.Omega.{arith}
@@ -20,7 +20,7 @@ use Rattle.theorems.specs.PartDriver.{Transfer, ended, driveWhole, trans
 use Rattle.theorems.specs.AnyCaller.{PartMeets, CloseMeets, takenBy, Called, made, taking, closing, no-part, no-closing, uploaded, Reached, starts, hands, closes, part-refused, close-refused, Finishes, finishes, takingCalls}
 use Rattle.theorems.proofs.AnyCut.{whole-image}
 use Rattle.theorems.proofs.OneCall.{refused-stays, finish-done, part-unshut, part-keeps, taken-is}
-use Rattle.theorems.proofs.AnyCaller.{Sent, unshut, shut, sent-so, whatever-was-taken, few-of, true-not-false}
+use Rattle.theorems.proofs.AnyCaller.{Sent, unshut, shut, sent-so, whatever-was-taken, counts-the-taken, few-of, true-not-false}
 use Rattle.theorems.proofs.PartsSend.{due}
 use Rattle.theorems.proofs.AnyCaller as caller
 
@@ -77,18 +77,29 @@ module _ (area : ℕ) (checked : Bool) (image : List ℕ) where
   unfolding closed
   finish-means-all m left ts before now r d p g = shut-at-the-end m left ts d (ap closed (finish-done m before now r p g))
 
+  -- what was taken is then the image
+  all-taken : (m : MaskRomOperation) (left : List ℕ) (ts : List Transfer) (before now : List ℕ) (r : CloseStepped) → (d : Reached area checked image m left ts)
+      → CloseMeets r m before now → stepTold (r .step) ≡ given finish → image-in-order m left ts d .0 ≡ image
+  all-taken m left ts before now r d p g =
+      let c = image-in-order m left ts d in
+      sym (append-nil (c .0)) ∙ ap (λ (l : List ℕ). c .0 ++ l) (sym (finish-means-all m left ts before now r d p g)) ∙ c .2
+
   -- DEMAND 3, for an image: the transfers seen are those of the upload's bytes ..
   pub any-caller : (ts : List Transfer) → Finishes area checked image ts → ts ≡ transfersOf area checked image
   any-caller _ (finishes m left ts before now r d p g) =
       let c = image-in-order m left ts d in
-      let none = finish-means-all m left ts before now r d p g in
-      let all : c .0 ≡ image = sym (append-nil (c .0)) ∙ ap (λ (l : List ℕ). c .0 ++ l) (sym none) ∙ c .2 in
-      whatever-was-taken area checked (c .0) ts (uploaded m (c .0) ts before now r (c .1) p g) ∙ ap (transfersOf area checked) all
+      whatever-was-taken area checked (c .0) ts (uploaded m (c .0) ts before now r (c .1) p g) ∙ ap (transfersOf area checked) (all-taken m left ts before now r d p g)
+
+  -- with an image that is too long nobody comes to the finish
+  pub finished-fits : (ts : List Transfer) → Finishes area checked image ts → length image ≤ longest
+  finished-fits _ (finishes m left ts before now r d p g) =
+      let c = image-in-order m left ts d in
+      subst (λ (l : List ℕ). length l ≤ longest) (all-taken m left ts before now r d p g) (counts-the-taken area checked m (c .0) ts (c .1) .1)
 
   -- .. and so those of the whole upload
-  pub as-the-whole-upload : (ts : List Transfer) (out : List ℕ) → Finishes area checked image ts → length image ≤ longest → blockSize ≤ length out
+  pub as-the-whole-upload : (ts : List Transfer) (out : List ℕ) → Finishes area checked image ts → blockSize ≤ length out
       → driveWhole (total (length image) / blockSize + 2) area checked image out ≡ ended ts
-  as-the-whole-upload ts out f l h = whole-image area checked image out l h ∙ ap ended (sym (any-caller ts f))
+  as-the-whole-upload ts out f h = whole-image area checked image out (finished-fits ts f) h ∙ ap ended (sym (any-caller ts f))
 
   seen-by : (m : MaskRomOperation) (taken left : List ℕ) (ts : List Transfer) → Sent area checked m taken ts → taken ++ left ≡ image
       → (closed (m .steps) ≡ true → left ≡ []) → (later : List Transfer) × (ts ++ later ≡ transfersOf area checked image)
