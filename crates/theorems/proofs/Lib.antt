@@ -13,8 +13,8 @@
 -- `OperationTold` what any may be told.
 -- A run that ended in 28: `CheckedRuns` has that it and the run that resumes it are one run, if its checks pass again, `OperationResumed` and
 -- `UploadResumed` that they do, for the runs that are called.
--- A deck: `BetweenBlocks` has what holds between one block and the next, `DeckRefusals` the refusals that the bench can meet, `BlockNumbers` each
--- block's number and tag.
+-- A deck: `BenchStart` has the flash that a bench starts with, `BetweenBlocks` what holds between one block and the next, `DeckRefusals` the refusals
+-- that the bench can meet, `BlockNumbers` each block's number and tag.
 pub mod CutIntoTransfers
 pub mod BehindTheImage
 pub mod StepsToFinish
@@ -54,6 +54,7 @@ pub mod OperationTold
 pub mod CheckedRuns
 pub mod OperationResumed
 pub mod UploadResumed
+pub mod BenchStart
 pub mod BetweenBlocks
 pub mod DeckRefusals
 pub mod BlockNumbers
