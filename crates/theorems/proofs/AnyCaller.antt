@@ -16,7 +16,8 @@ use Rattle.maskrom.specs.declared.CloseStepped.{CloseStepped}
 use Rattle.maskrom.specs.Answers.{longest, Handed, Asks, finish, partTold, stepTold}
 use Rattle.maskrom.specs.PartWise.{waiting, held, closed, takes, asks, partStep, closeStep}
 use Rattle.theorems.specs.PartDriver.{Transfer, transfersOf}
-use Rattle.theorems.specs.AnyCaller.{PartMeets, CloseMeets, takenBy, handedSeen, askedSeen, Called, made, taking, closing, no-part, no-closing, Uploaded, uploaded, oneOf, takingCalls, closingSteps}
+use Rattle.maskrom.specs.Calls.{PartMeets, CloseMeets}
+use Rattle.theorems.specs.AnyCaller.{takenBy, handedSeen, askedSeen, Called, made, taking, closing, no-part, no-closing, Uploaded, uploaded, oneOf, takingCalls, closingSteps}
 use Rattle.theorems.proofs.StepsToFinish.{Sends}
 use Rattle.theorems.proofs.PartsSend.{Open, due, close-due}
 use Rattle.theorems.proofs.AnyCut.{start-due, fresh-open}

@@ -14,7 +14,8 @@ use Rattle.crc.specs.Check.{start}
 use Rattle.maskrom.specs.declared.WholeUpload.{WholeUpload}
 use Rattle.maskrom_transfer.specs.Moves.{blockSize, register}
 use Rattle.maskrom.specs.Answers.{longest}
-use Rattle.theorems.specs.UploadBytes.{pad, lastZero, uploadBytes, cut, total}
+use Rattle.maskrom.specs.Made.{pad}
+use Rattle.theorems.specs.UploadBytes.{lastZero, uploadBytes, cut, total}
 use Rattle.promise.specs.Does.{does, said, after}
 use Rattle.maskrom.specs.PartWise.{fresh}
 use Rattle.maskrom.specs.Whole.{freshWhole, startStep, wholeStep}

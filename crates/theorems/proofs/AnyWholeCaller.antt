@@ -22,9 +22,10 @@ use Rattle.maskrom.specs.Whole.{freshWhole, startStep, StartMeets, most, sentOn
 use Rattle.maskrom.proofs.Cases.{whole-20}
 use Rattle.maskrom.proofs.Writes.{front-seen}
 use Rattle.theorems.specs.PartDriver.{Transfer, transfersOf}
-use Rattle.theorems.specs.AnyCaller.{askedSeen, StepMeets, Stepped, begun, stepping, no-step, WholeFinishes, whole-finishes}
+use Rattle.maskrom.specs.Calls.{StepMeets}
+use Rattle.theorems.specs.AnyCaller.{askedSeen, Stepped, begun, stepping, no-step, WholeFinishes, whole-finishes}
 use Rattle.theorems.proofs.StepsToFinish.{Sends, finishes, sends}
-use Rattle.theorems.proofs.BehindTheImage.{register-empty}
+use Rattle.maskrom.proofs.Register.{register-empty}
 use Rattle.theorems.proofs.WholeSends.{whole-goes, done}
 use Rattle.theorems.proofs.AnyCut.{started, whole-start}
 use Rattle.theorems.proofs.OneCall.{not-both, refused-stays, asks-finish, same-given, writes-finish}

@@ -10,20 +10,12 @@ use borrow.Author.Tests.{ne-eqb}
 use Rattle.promise.specs.Rules.{pick}
 use Rattle.promise.specs.Bytes.{highFirst}
 use Rattle.crc.specs.Check.{start, check}
-use Rattle.crc.proofs.Laws.{over-append, over-empty}
+use Rattle.crc.proofs.Laws.{over-append}
 use Rattle.maskrom_transfer.specs.Moves.{checkBytes, register}
 use Rattle.maskrom_transfer.proofs.Cases.{length-check}
-use Rattle.theorems.specs.UploadBytes.{pad, lastZero, uploadBytes}
-
-pub register-empty : (checked : Bool) (crc : ℕ) → register checked crc [] ≡ crc
-unfolding register
-register-empty true crc = over-empty crc
-register-empty false crc = refl
-
-pub register-append : (checked : Bool) (crc : ℕ) (xs ys : List ℕ) → register checked crc (xs ++ ys) ≡ register checked (register checked crc xs) ys
-unfolding register
-register-append true crc xs ys = over-append crc xs ys
-register-append false crc xs ys = refl
+use Rattle.maskrom.proofs.Register.{register-empty, register-append}
+use Rattle.maskrom.specs.Made.{pad}
+use Rattle.theorems.specs.UploadBytes.{lastZero, uploadBytes}
 
 unfoldable pub ending : Bool → ℕ → ℕ → List ℕ
 ending checked crc n = pad n ++ (checkBytes checked (register checked crc (pad n)) ++ lastZero n)

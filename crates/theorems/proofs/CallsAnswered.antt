@@ -28,7 +28,8 @@ use Rattle.maskrom.specs.PartWise.{waiting, held, closed, takes, partStep, asks
 use Rattle.maskrom.specs.Code.{parted, closedWith}
 use Rattle.maskrom.proofs.Cases.{close-20, close-acts}
 use Rattle.theorems.specs.PartDriver.{Transfer}
-use Rattle.theorems.specs.AnyCaller.{PartMeets, CloseMeets, takenBy, handedSeen, askedSeen, Reached, hands, closes}
+use Rattle.maskrom.specs.Calls.{PartMeets, CloseMeets}
+use Rattle.theorems.specs.AnyCaller.{takenBy, handedSeen, askedSeen, Reached, hands, closes}
 use Rattle.theorems.proofs.AnyCaller.{closing-not-refused}
 use Rattle.theorems.proofs.ImageInOrder.{slice-not-refused}
 

@@ -12,7 +12,8 @@ use lib.ListN.{length}
 use borrow.Author.Tests.{lt-ltb, le-ltb}
 use Rattle.promise.specs.Rules.{pick}
 use Rattle.maskrom.specs.Answers.{longest}
-use Rattle.theorems.specs.UploadBytes.{pad, lastZero, total}
+use Rattle.maskrom.specs.Made.{pad}
+use Rattle.theorems.specs.UploadBytes.{lastZero, total}
 use Rattle.theorems.specs.DriveTrace.{inParts, callsFor, partBudget, wholeSteps}
 
 sub-twice : (a b c : ℕ) → a - (b + c) ≡ a - b - c

@@ -22,7 +22,7 @@ use Rattle.maskrom.specs.Whole.{freshWhole, startStep, most, wholeStep}
 use Rattle.maskrom.proofs.Cases.{whole-27}
 use Rattle.theorems.proofs.ClosingSends.{close-goes}
 use Rattle.theorems.proofs.WholeSends.{whole-goes}
-use Rattle.theorems.proofs.BehindTheImage.{register-empty}
+use Rattle.maskrom.proofs.Register.{register-empty}
 
 -- a record that is done finishes, and is left as it was: it finishes again, for ever
 pub close-repeats : (m : MaskRomOperation) (room : ℕ) → m .steps ≡ Done → blockSize ≤ room → closeStep m room ≡ given (does finish [] m)

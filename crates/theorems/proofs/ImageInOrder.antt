@@ -17,7 +17,8 @@ use Rattle.maskrom.specs.Answers.{longest, Handed, finish, partTold, stepTold}
 use Rattle.maskrom.specs.PartWise.{waiting, closed, partStep, closeStep}
 use Rattle.theorems.specs.UploadBytes.{total}
 use Rattle.theorems.specs.PartDriver.{Transfer, ended, driveWhole, transfersOf}
-use Rattle.theorems.specs.AnyCaller.{PartMeets, CloseMeets, takenBy, Called, made, taking, closing, no-part, no-closing, uploaded, Reached, starts, hands, closes, part-refused, close-refused, Finishes, finishes, takingCalls}
+use Rattle.maskrom.specs.Calls.{PartMeets, CloseMeets}
+use Rattle.theorems.specs.AnyCaller.{takenBy, Called, made, taking, closing, no-part, no-closing, uploaded, Reached, starts, hands, closes, part-refused, close-refused, Finishes, finishes, takingCalls}
 use Rattle.theorems.proofs.AnyCut.{whole-image}
 use Rattle.theorems.proofs.OneCall.{refused-stays, finish-done, part-unshut, part-keeps, taken-is}
 use Rattle.theorems.proofs.AnyCaller.{Sent, unshut, shut, sent-so, whatever-was-taken, counts-the-taken, few-of, true-not-false}

@@ -24,7 +24,8 @@ use Rattle.maskrom.specs.Whole.{freshWhole, startStep, StartMeets, most, wholeS
 use Rattle.maskrom.proofs.Cases.{whole-20, whole-27}
 use Rattle.ffi.specs.Drive.{stepping, onward, stepTurn, stepDrive, stepOf, onStart, wholeDrive}
 use Rattle.theorems.specs.PartDriver.{Transfer, seen}
-use Rattle.theorems.specs.AnyCaller.{askedSeen, StepMeets, Stepped, begun, WholeFinishes, whole-finishes}
+use Rattle.maskrom.specs.Calls.{StepMeets}
+use Rattle.theorems.specs.AnyCaller.{askedSeen, Stepped, begun, WholeFinishes, whole-finishes}
 use Rattle.theorems.specs.AnyCaller as caller
 use Rattle.theorems.specs.DriveTrace.{stepShows, stepTurnShows, onTurn, runShows, stepTrace, onStartTrace, wholeTrace}
 use Rattle.theorems.proofs.WholeSends.{whole-goes}

@@ -17,7 +17,8 @@ use Rattle.maskrom.specs.Answers.{longest, Handed, took, filled, Asks, writes, 
 use Rattle.maskrom.specs.PartWise.{fresh, partStep, closeStep}
 use Rattle.maskrom.specs.Code.{parted, closedWith}
 use Rattle.theorems.specs.PartDriver.{Transfer, Drive, ended, stopped, unending, sending, seen, onStep, stepThrough, orAgain, onPart, hand, handAll, driveParts, transfersOf}
-use Rattle.theorems.specs.AnyCaller.{PartMeets, CloseMeets, takenBy, handedSeen, askedSeen, Reached, starts, hands, closes, Finishes, finishes}
+use Rattle.maskrom.specs.Calls.{PartMeets, CloseMeets}
+use Rattle.theorems.specs.AnyCaller.{takenBy, handedSeen, askedSeen, Reached, starts, hands, closes, Finishes, finishes}
 use Rattle.theorems.proofs.AnyCut.{any-cut}
 use Rattle.theorems.proofs.OneCall.{taken-is}
 

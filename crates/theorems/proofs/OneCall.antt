@@ -28,7 +28,8 @@ use Rattle.maskrom.proofs.Cases.{part-takes, takes-full, takes-some, close-20, 
 use Rattle.maskrom.proofs.Lists.{filled-length}
 use Rattle.maskrom.proofs.Writes.{front-seen}
 use Rattle.theorems.specs.PartDriver.{Transfer, transfer, seen}
-use Rattle.theorems.specs.AnyCaller.{PartMeets, CloseMeets, takenBy, handedSeen, askedSeen}
+use Rattle.maskrom.specs.Calls.{PartMeets, CloseMeets}
+use Rattle.theorems.specs.AnyCaller.{takenBy, handedSeen, askedSeen}
 use Rattle.theorems.proofs.StepsToFinish.{Sends, finishes, sends}
 use Rattle.theorems.proofs.ClosingSends.{close-done}
 use Rattle.theorems.proofs.PartsSend.{Open, due, still-open, due-some, due-full}

@@ -23,7 +23,8 @@ use Rattle.maskrom.specs.PartWise.{fresh, partStep, closeStep}
 use Rattle.maskrom.specs.Code.{parted, closedWith}
 use Rattle.ffi.specs.Drive.{stepping, onward, stepTurn, stepDrive, Handing, handing, onPart, partTurn, mostClosing, onHanded, partDrive}
 use Rattle.theorems.specs.PartDriver.{Transfer, seen}
-use Rattle.theorems.specs.AnyCaller.{PartMeets, CloseMeets, takenBy, handedSeen, askedSeen, Reached, starts, hands, closes, Finishes, finishes}
+use Rattle.maskrom.specs.Calls.{PartMeets, CloseMeets}
+use Rattle.theorems.specs.AnyCaller.{takenBy, handedSeen, askedSeen, Reached, starts, hands, closes, Finishes, finishes}
 use Rattle.theorems.specs.DriveTrace.{partShows, stepShows, partTurnShows, stepTurnShows, onTurn, runShows, stepTrace, onHandedTrace, partTrace}
 use Rattle.theorems.proofs.CallsAnswered.{part-told, close-told}
 

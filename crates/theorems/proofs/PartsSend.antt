@@ -21,7 +21,8 @@ use Rattle.maskrom.proofs.Writes.{front-seen}
 use Rattle.maskrom.proofs.Cases.{part-takes, takes-full, takes-some}
 use Rattle.theorems.specs.PartDriver.{Transfer, transfer, Drive, ended, sending, orAgain, onPart, hand, handAll, stepThrough}
 use Rattle.theorems.proofs.CutIntoTransfers.{cut-block, cut-many}
-use Rattle.theorems.proofs.BehindTheImage.{register-empty, ending, regroup, ending-same, ending-few}
+use Rattle.maskrom.proofs.Register.{register-empty}
+use Rattle.theorems.proofs.BehindTheImage.{ending, regroup, ending-same, ending-few}
 use Rattle.theorems.proofs.StepsToFinish.{Sends, enough, front-room}
 use Rattle.theorems.proofs.ClosingSends.{close-sends}
 

@@ -9,7 +9,8 @@ use Rattle.promise.specs.Bytes.{lowFirst, highFirst}
 use Rattle.crc.specs.Check.{crcOver}
 use Rattle.maskrom_transfer.specs.Moves.{blockSize, checkBytes}
 use Rattle.maskrom.specs.Answers.{longest}
-use Rattle.theorems.specs.UploadBytes.{pad, lastZero, uploadBytes, pieces, cut, total}
+use Rattle.maskrom.specs.Made.{pad}
+use Rattle.theorems.specs.UploadBytes.{lastZero, uploadBytes, pieces, cut, total}
 use Rattle.theorems.specs.PartDriver.{transfer, transfersOf, sizesOf, Uploads}
 use Rattle.theorems.proofs.AnyCut.{any-cut, how-many, sizes}
 

@@ -19,7 +19,8 @@ use Rattle.maskrom_transfer.proofs.Cases.{length-check, writing-block}
 use Rattle.maskrom.proofs.Cases.{whole-sends, sends-acts}
 use Rattle.theorems.specs.PartDriver.{transfer}
 use Rattle.theorems.proofs.CutIntoTransfers.{cut-block}
-use Rattle.theorems.proofs.BehindTheImage.{register-empty, ending, regroup, ending-same}
+use Rattle.maskrom.proofs.Register.{register-empty}
+use Rattle.theorems.proofs.BehindTheImage.{ending, regroup, ending-same}
 use Rattle.theorems.proofs.StepsToFinish.{Sends, finishes, sends}
 use Rattle.theorems.proofs.ClosingSends.{ends}
 

@@ -4,9 +4,8 @@ use Prim.Native.Nat.{ℕ, zero, suc, _+_}
 use mathlib.Core.Path.{_≡_}
 use mathlib.Core.Bool.{Bool}
 use mathlib.Core.List.{List, [], _∷_, _++_}
-use lib.ListN.{length, take, drop}
+use lib.ListN.{take, drop}
 use Rattle.promise.specs.Told.{given, refused}
-use Rattle.promise.specs.Does.{Meets}
 use Rattle.maskrom.specs.declared.MaskRomOperation.{MaskRomOperation}
 use Rattle.maskrom.specs.declared.PartStepped.{PartStepped}
 use Rattle.maskrom.specs.declared.CloseStepped.{CloseStepped}
@@ -14,16 +13,10 @@ use Rattle.maskrom.specs.declared.WholeUpload.{WholeUpload}
 use Rattle.maskrom.specs.declared.WholeStart.{WholeStart}
 use Rattle.maskrom.specs.declared.WholeStepped.{WholeStepped}
 use Rattle.maskrom.specs.Answers.{Handed, took, filled, Asks, writes, finish, partTold, stepTold, startTold}
-use Rattle.maskrom.specs.PartWise.{fresh, partStep, closeStep}
-use Rattle.maskrom.specs.Whole.{StartMeets, wholeStep}
+use Rattle.maskrom.specs.PartWise.{fresh}
+use Rattle.maskrom.specs.Calls.{PartMeets, CloseMeets, StepMeets}
+use Rattle.maskrom.specs.Whole.{StartMeets}
 use Rattle.theorems.specs.PartDriver.{Transfer, seen}
-
--- what `MaskRomOperation::part` and `MaskRomOperation::close` promise of an answer, with the output before and after the call
-abbrev pub PartMeets : PartStepped → MaskRomOperation → List ℕ → List ℕ → List ℕ → Type 0
-PartMeets r m part before now = Meets (partTold (r .step)) (r .next) before now m (partStep m part (length before))
-
-abbrev pub CloseMeets : CloseStepped → MaskRomOperation → List ℕ → List ℕ → Type 0
-CloseMeets r m before now = Meets (stepTold (r .step)) (r .next) before now m (closeStep m (length before))
 
 -- how many bytes an answer says were taken, and the transfer that it asks for, where it does, with the output as the call left it
 unfoldable pub takenBy : Handed → ℕ
@@ -109,9 +102,6 @@ pub data Finishes (area : ℕ) (checked : Bool) (image : List ℕ) : List Transf
       → Reached area checked image m left ts → CloseMeets r m before now → stepTold (r .step) ≡ given finish → Finishes area checked image ts
 
 -- any caller of a whole upload, who lends its image at every step
-
-abbrev pub StepMeets : WholeStepped → WholeUpload → List ℕ → List ℕ → List ℕ → Type 0
-StepMeets r u image before now = Meets (stepTold (r .step)) (r .next) before now u (wholeStep u image (length before))
 
 -- where his calls can bring him: to a record, with these transfers seen. A step that is refused may have been lent anything.
 pub data Stepped (area : ℕ) (checked : Bool) (image : List ℕ) : WholeUpload → List Transfer → Type 0 where

@@ -7,10 +7,7 @@ use lib.Dec.{eqb}
 use Rattle.promise.specs.Rules.{pick}
 use Rattle.crc.specs.Check.{check}
 use Rattle.maskrom_transfer.specs.Moves.{blockSize, checkBytes}
-
--- "a zero if its length mod 4,096 is 4,095"
-unfoldable pub pad : ℕ → List ℕ
-pad n = pick (eqb (n % blockSize) 4095) (0 ∷ []) []
+use Rattle.maskrom.specs.Made.{pad}
 
 -- "a zero if the length mod 4,096 is 4,094"
 unfoldable pub lastZero : ℕ → List ℕ
