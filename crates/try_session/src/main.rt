@@ -1,18 +1,40 @@
-// One session of the stand-in, lent from call to call: a write, a read, an erase, a reset and a refusal. A line for each call and one for the record
-// after each command; README.md beside says how the expected lines were worked out.
+// One session of the stand-in, lent from call to call: a start, a write, a read, an erase, a reset and a refusal, then a start that is refused and one
+// that is not. A line for each call and one for the record after each command; README.md beside says how the expected lines were worked out.
 use libc::STDOUT_FILENO;
 use mock_base::config::MockDeviceConfig;
 use mock_base::error::MockAnswer;
 use mock_effects::SessionStep;
+use mock_session::bulk::look;
 use mock_session::bulk::read_bulk;
+use mock_session::bulk::start;
 use mock_session::bulk::write_bulk;
 use mock_session::record::fresh;
-use mock_session::record::start_step;
 use mock_table::session::CommandState;
 use mock_table::session::LastReset;
 use mock_table::session::Session;
 ghost use mathlib.Core.Path.{_≡_};
+ghost use mathlib.Core.List.{[]};
+ghost use lib.ListN.{length};
 ghost use Rattle.mock_effects.specs.Steps.{StepMeets, writeStep, readStep};
+ghost use Rattle.mock_session.specs.Start.{startStep};
+
+// A start of a record that stands in a local and is lent for the time of the call.
+fn lent_start(mut session: Session, flash: &[u8]) -> SessionStep
+    ensures { λ r. ⌜ StepMeets r [] (startStep session (length (now (flash .entry)))) ⌝ }
+{
+    let answer = start(&mut session, flash);
+    SessionStep {
+        answer: answer,
+        session: session,
+    }
+}
+
+// A look at such a record.
+fn lent_look(session: Session) -> Session
+    ensures { λ r. ⌜ r ≡ session ⌝ }
+{
+    look(&session)
+}
 
 // One bulk write over a record that stands in a local and is lent for the time of the call.
 fn lent_write(mut session: Session, flash: &mut [u8], data: &[u8]) -> SessionStep
@@ -113,6 +135,11 @@ fn print_record(session: Session) {
     print(b"\n");
 }
 
+// The record's line, of what a look at it sees.
+fn show(session: Session) {
+    print_record(lent_look(session));
+}
+
 // A bulk write, with its line.
 fn send(name: &[u8], session: Session, flash: &mut [u8], data: &[u8]) -> SessionStep {
     let step = lent_write(session, flash, data);
@@ -185,42 +212,72 @@ fn plain(session: Session, flash: &mut [u8], command: &[u8]) -> Session {
     settle(told.session, flash)
 }
 
-fn start(flash: &[u8]) -> Session {
-    let step = start_step(fresh(), flash);
+// A start, with its line and that of the record after it.
+fn begin(session: Session, flash: &[u8]) -> Session {
+    let step = lent_start(session, flash);
     let answer = step.answer;
     print_plain(b"start", answer);
+    show(step.session);
     step.session
+}
+
+// A write and a read.
+fn write_and_read(session: Session, flash: &mut [u8]) -> Session {
+    // WriteLBA, tag 1: 512 bytes out, sector 1, count 1
+    let block =
+        b"USBC\x00\x00\x00\x01\x00\x02\x00\x00\x00\x00\x0A\x15\x00\x00\x00\x00\x01\x00\x00\x01\x00\x00\x00\x00\x00\x00\x00";
+    let stored = write(session, flash, block);
+    show(stored);
+    // ReadLBA, tag 2: 1,024 bytes in, sector 1, count 2
+    let block =
+        b"USBC\x00\x00\x00\x02\x00\x04\x00\x00\x80\x00\x0A\x14\x00\x00\x00\x00\x01\x00\x00\x02\x00\x00\x00\x00\x00\x00\x00";
+    let seen = read(stored, flash, block);
+    show(seen);
+    seen
+}
+
+// An erase, a reset and a write that is refused.
+fn erase_and_reset(session: Session, flash: &mut [u8]) -> Session {
+    // EraseLBA, tag 3: no data, sector 2, count 1
+    let block =
+        b"USBC\x00\x00\x00\x03\x00\x00\x00\x00\x00\x00\x0A\x25\x00\x00\x00\x00\x02\x00\x00\x01\x00\x00\x00\x00\x00\x00\x00";
+    let erased = plain(session, flash, block);
+    show(erased);
+    // DeviceReset, tag 4: no data, opcode 3
+    let block =
+        b"USBC\x00\x00\x00\x04\x00\x00\x00\x00\x00\x00\x06\xFF\x03\x00\x00\x00\x00\x00\x00\x00\x00\x00\x00\x00\x00\x00\x00";
+    let reset = plain(erased, flash, block);
+    show(reset);
+    // WriteLBA, tag 5: 512 bytes out, sector 4, count 1, of a flash of 4 sectors
+    let block =
+        b"USBC\x00\x00\x00\x05\x00\x02\x00\x00\x00\x00\x0A\x15\x00\x00\x00\x00\x04\x00\x00\x01\x00\x00\x00\x00\x00\x00\x00";
+    let refused = write(reset, flash, block);
+    show(refused);
+    refused
+}
+
+// A write's command, whose data is awaited from then on.
+fn open(session: Session, flash: &mut [u8]) -> Session {
+    // WriteLBA, tag 6: 512 bytes out, sector 0, count 1
+    let block =
+        b"USBC\x00\x00\x00\x06\x00\x02\x00\x00\x00\x00\x0A\x15\x00\x00\x00\x00\x00\x00\x00\x01\x00\x00\x00\x00\x00\x00\x00";
+    let told = send(b"command out", session, flash, block);
+    show(told.session);
+    told.session
 }
 
 fn main() {
     let mut flash = [0x11u8; 2048];
-    let started = start(&flash);
-    print_record(started);
-    // WriteLBA, tag 1: 512 bytes out, sector 1, count 1
-    let block =
-        b"USBC\x00\x00\x00\x01\x00\x02\x00\x00\x00\x00\x0A\x15\x00\x00\x00\x00\x01\x00\x00\x01\x00\x00\x00\x00\x00\x00\x00";
-    let stored = write(started, &mut flash, block);
-    print_record(stored);
-    // ReadLBA, tag 2: 1,024 bytes in, sector 1, count 2
-    let block =
-        b"USBC\x00\x00\x00\x02\x00\x04\x00\x00\x80\x00\x0A\x14\x00\x00\x00\x00\x01\x00\x00\x02\x00\x00\x00\x00\x00\x00\x00";
-    let seen = read(stored, &mut flash, block);
-    print_record(seen);
-    // EraseLBA, tag 3: no data, sector 2, count 1
-    let block =
-        b"USBC\x00\x00\x00\x03\x00\x00\x00\x00\x00\x00\x0A\x25\x00\x00\x00\x00\x02\x00\x00\x01\x00\x00\x00\x00\x00\x00\x00";
-    let erased = plain(seen, &mut flash, block);
-    print_record(erased);
-    // DeviceReset, tag 4: no data, opcode 3
-    let block =
-        b"USBC\x00\x00\x00\x04\x00\x00\x00\x00\x00\x00\x06\xFF\x03\x00\x00\x00\x00\x00\x00\x00\x00\x00\x00\x00\x00\x00\x00";
-    let reset = plain(erased, &mut flash, block);
-    print_record(reset);
-    // WriteLBA, tag 5: 512 bytes out, sector 4, count 1, of a flash of 4 sectors
-    let block =
-        b"USBC\x00\x00\x00\x05\x00\x02\x00\x00\x00\x00\x0A\x15\x00\x00\x00\x00\x04\x00\x00\x01\x00\x00\x00\x00\x00\x00\x00";
-    let refused = write(reset, &mut flash, block);
-    print_record(refused);
+    let untouched = fresh();
+    show(untouched);
+    let started = begin(untouched, &flash);
+    let seen = write_and_read(started, &mut flash);
+    let reset = erase_and_reset(seen, &mut flash);
+    let opened = open(reset, &mut flash);
+    // no whole number of sectors
+    let odd = [0x11u8; 700];
+    let kept = begin(opened, &odd);
+    begin(kept, &flash);
     print(b"flash");
     print_sectors(&flash);
     print(b"\n");
