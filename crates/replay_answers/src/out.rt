@@ -46,7 +46,7 @@ fn hex_byte(out: &mut [u8], at: usize, byte: u8) -> usize {
     put(out, next, digit(byte % 16))
 }
 
-fn hex(out: &mut [u8], at: usize, bytes: &[u8]) -> usize {
+pub fn hex(out: &mut [u8], at: usize, bytes: &[u8]) -> usize {
     let mut next = at;
     for i in 0..bytes.len() {
         next = hex_byte(out, next, bytes[i]);

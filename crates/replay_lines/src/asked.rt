@@ -16,6 +16,7 @@ use crate::line::number;
 use crate::line::refused;
 use crate::names::ALL;
 use crate::names::ARE;
+use crate::names::BLK;
 use crate::names::BWR;
 use crate::names::CAP;
 use crate::names::CHP;
@@ -54,6 +55,9 @@ use crate::names::has_room;
 const IMAGE: u64 = 100000;
 
 const LISTED: u64 = 4194304;
+
+// a block of a deck
+const BLOCK: u64 = 512;
 
 // the most of a part's size: the language's longest image
 pub const PART: u64 = 16777216;
@@ -95,6 +99,7 @@ fn of_call(call: u64) -> Wanted {
         CUT => Wanted(U16, 1, 2047, 0, LISTED),
         CRD | SRD | SMP | STO | CHP | FID | FIN | CAP => Wanted(0, 0, 0, 0, LEN),
         CNV | GIV | BWR => Wanted(0, 0, 0, 0, LEN),
+        BLK => Wanted(0, 0, 0, 0, BLOCK),
         _ => Wanted(0, 0, 0, 0, 0),
     }
 }

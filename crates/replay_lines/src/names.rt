@@ -76,6 +76,12 @@ pub const UST: u64 = 0x757374;
 pub const ALL: u64 = 0x616c6c;
 
 pub const CUT: u64 = 0x637574;
+// decks
+pub const DCK: u64 = 0x64636b;
+
+pub const BLK: u64 = 0x626c6b;
+
+pub const DEV: u64 = 0x646576;
 
 // The room, which is OUTLEN bytes of FILL before the call.
 pub fn has_room(call: u64) -> bool {

@@ -1,6 +1,5 @@
 // Answers the kinds `operations`, `device` and `runs` of the language of cases (differential/LANGUAGE.md): a line in, a line out.
 mod names;
-mod shown;
 
 use names::has_device;
 use names::has_own;
@@ -12,6 +11,7 @@ use replay_answers::out::flush;
 use replay_answers::out::section;
 use replay_answers::out::text;
 use replay_answers::told::OUTSIDE;
+use replay_device::devices::Device;
 use replay_lines::asked::Asked;
 use replay_lines::asked::ask;
 use replay_lines::buffer::between;
@@ -22,12 +22,33 @@ use replay_lines::names::has_room;
 use replay_world::calls;
 use replay_world::world::World;
 use replay_world::world::new_world;
-use shown::show;
 
 // A run's steps and the room, where the call has them.
 fn count_and_room(out: &mut [u8], at: usize, asked: Asked, steps: u32, room: &[u8]) -> usize {
     let next = count_section(out, at, has_steps(asked.call), steps as u64);
     section(out, next, has_room(asked.call), room, asked.room)
+}
+
+// The device, where the answer has it and there is one.
+fn show(
+    out: &mut [u8],
+    at: usize,
+    is_shown: bool,
+    device: Device,
+    flash: &[u8],
+    store: &[u8],
+) -> usize {
+    if is_shown && device.is_there {
+        replay_shown::device(
+            out,
+            at,
+            device.state,
+            between(flash, 0, device.flash),
+            between(store, 0, device.store),
+        )
+    } else {
+        at
+    }
 }
 
 // The caller's data and the device, where the call has them.

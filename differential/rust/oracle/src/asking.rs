@@ -8,7 +8,7 @@ use std::{
 
 use crate::{
     cases::make::Case,
-    oracle::{OUTSIDE, Oracle},
+    oracle::{Oracle, outside},
 };
 
 const NO_ANSWER: &str = "(no answer)";
@@ -54,7 +54,7 @@ pub fn differ(program: &str, case: &[String]) -> io::Result<Option<Difference>> 
         if !answered {
             ours = NO_ANSWER.into();
         }
-        if found.is_none() && (!answered || (rust != OUTSIDE && rust != ours)) {
+        if found.is_none() && (!answered || (outside(&rust).is_none() && rust != ours)) {
             found = Some(Difference { case: case[..=i].to_vec(), rust, ours: ours.clone() });
         }
     }

@@ -5,15 +5,18 @@ use std::sync::OnceLock;
 use rockusb::{
     operation::{OperationSteps, UsbOperationError, UsbStep},
     protocol::{
-        COMMAND_BLOCK_BYTES, Capability, ChipInfo, CommandBlock, CommandCode, CommandStatus, Direction,
-        FlashId, FlashInfo, ResetOpcode, Status, StorageIndex,
+        COMMAND_BLOCK_BYTES, COMMAND_STATUS_BYTES, Capability, ChipInfo, CommandBlock, CommandCode,
+        CommandStatus, Direction, FlashId, FlashInfo, ResetOpcode, Status, StorageIndex,
     },
 };
 
 use crate::{
     refusals::{command_refusal, operation_refusal, status_refusal},
-    text::{Answer, Stop, Tokens, show},
-    values::{SECTOR_BYTES_LIMIT, asked, flash_id_bytes, output, reset_opcode, show_index, storage_index},
+    text::{Answer, Reason, Stop, Tokens, show},
+    values::{
+        SECTOR_BYTES_LIMIT, flash_id_bytes, long_enough, output, reset_opcode, show_index, storage_index,
+        whole_sectors,
+    },
 };
 
 pub fn number(name: &str, tokens: &mut Tokens) -> Answer {
@@ -77,9 +80,7 @@ pub fn convert_command(tokens: &mut Tokens) -> Answer {
 }
 
 fn write_block(block: &CommandBlock, out: &mut [u8]) -> Answer {
-    if out.len() < COMMAND_BLOCK_BYTES {
-        return Err(Stop::Outside);
-    }
+    long_enough(out, COMMAND_BLOCK_BYTES)?;
     let count = block.to_bytes(out);
     Ok(format!("0 {count} | {}", show(out)))
 }
@@ -99,7 +100,7 @@ fn constructed(tokens: &mut Tokens) -> Result<CommandBlock, Stop> {
         "wrl" => CommandBlock::write_lba(tokens.u32()?, tokens.u16()?),
         "rst" => CommandBlock::reset_device(reset_opcode(tokens)?),
         "swi" => CommandBlock::switch_storage(storage_index(tokens)?),
-        _ => return Err(Stop::Unreadable),
+        _ => return Err(Stop(Reason::Unreadable)),
     })
 }
 
@@ -124,9 +125,10 @@ pub fn map_status(tokens: &mut Tokens) -> Answer {
 pub fn write_status(tokens: &mut Tokens) -> Answer {
     let mut out = output(tokens)?;
     let (tag, residue) = (tokens.u32()?, tokens.u32()?);
-    let status = Status::try_from(tokens.u8()?).map_err(|_| Stop::Unreadable)?;
+    let status = Status::try_from(tokens.u8()?).map_err(|_| Stop(Reason::Unreadable))?;
     tokens.end()?;
-    let count = asked(|| CommandStatus { tag, residue, status }.to_bytes(&mut out))?;
+    long_enough(&out, COMMAND_STATUS_BYTES)?;
+    let count = CommandStatus { tag, residue, status }.to_bytes(&mut out);
     Ok(format!("0 {count} | {}", show(&out)))
 }
 
@@ -190,13 +192,11 @@ fn give<T>(step: UsbStep<'_, T>, bytes: &[u8]) {
 pub fn sectors(tokens: &mut Tokens) -> Answer {
     let len = tokens.up_to(u64::MAX)?;
     tokens.end()?;
-    if len > SECTOR_BYTES_LIMIT {
-        return Err(Stop::Outside);
-    }
+    whole_sectors(len)?;
     // Made once: it has up to 33,553,920 bytes, of which only the length counts.
     static ZEROS: OnceLock<Vec<u8>> = OnceLock::new();
     let zeros = ZEROS.get_or_init(|| vec![0; SECTOR_BYTES_LIMIT as usize]);
-    let mut operation = asked(|| rockusb::operation::write_lba(0, &zeros[..len as usize]))?;
+    let mut operation = rockusb::operation::write_lba(0, &zeros[..len as usize]);
     let UsbStep::WriteBulk { data: command } = operation.step() else {
         unreachable!("the first step of an operation")
     };

@@ -2,6 +2,7 @@
 //! number.
 
 use std::{
+    collections::BTreeMap,
     io::{self, BufRead, BufReader, BufWriter, Write},
     process::ChildStdin,
     sync::{
@@ -9,13 +10,16 @@ use std::{
         mpsc::{Receiver, SyncSender, sync_channel},
     },
     thread,
+    time::Instant,
 };
 
 use crate::{
     asking::{next_answer, start},
+    bounds::bound,
     cases::{Kind, generate, make::Case},
-    oracle::{OUTSIDE, Oracle},
-    smallest::smallest,
+    oracle::{Oracle, outside},
+    smallest::{LONGEST, smallest},
+    text::Reason,
 };
 
 /// Lines handed on at once, and how often before they are answered: more lines than a program's output buffer can hold
@@ -32,7 +36,8 @@ pub type Cases = Box<dyn Iterator<Item = Case> + Send>;
 pub struct Count {
     pub cases: usize,
     pub calls: usize,
-    pub outside: usize,
+    /// Calls that the Rust does not have in the rules' domain, by why.
+    pub outside: BTreeMap<Reason, usize>,
     pub differences: usize,
     /// Lines that were not of the language, and panics that were not expected.
     pub complaints: usize,
@@ -44,7 +49,9 @@ impl Count {
     pub fn add(&mut self, other: Count) {
         self.cases += other.cases;
         self.calls += other.calls;
-        self.outside += other.outside;
+        for (reason, n) in other.outside {
+            *self.outside.entry(reason).or_default() += n;
+        }
         self.differences += other.differences;
         self.complaints += other.complaints;
         self.found.extend(other.found);
@@ -128,10 +135,11 @@ fn compare_case(
         let rust = oracle.answer(line);
         let answered = next_answer(answers, ours)?;
         count.calls += 1;
-        if rust == OUTSIDE {
-            count.outside += 1;
+        let reason = outside(&rust);
+        if let Some(reason) = reason {
+            *count.outside.entry(reason).or_default() += 1;
         }
-        if !answered || (rust != OUTSIDE && rust != *ours) {
+        if !answered || (reason.is_none() && rust != *ours) {
             count.differences += 1;
             if is_first && count.found.len() < SHOWN {
                 count.found.push(case[..=i].to_vec());
@@ -149,10 +157,11 @@ fn compare_case(
 /// Prints the smallest case of each difference that is shown, where it is not that of one before.
 pub fn print_found(program: &str, count: &Count) -> io::Result<()> {
     let mut printed = Vec::new();
+    let until = Instant::now() + LONGEST;
     let mut found: Vec<&Case> = count.found.iter().collect();
     found.sort_by_key(|case| (case.len(), *case));
     for case in found.into_iter().take(SHOWN) {
-        let Some(difference) = smallest(program, case)? else {
+        let Some(difference) = smallest(program, case, until)? else {
             println!("difference, gone when asked again:");
             case.iter().for_each(|line| println!("  > {line}"));
             continue;
@@ -170,23 +179,41 @@ pub fn print_found(program: &str, count: &Count) -> io::Result<()> {
 }
 
 pub fn print_count(name: &str, count: &Count) {
-    let Count { cases, calls, outside, differences, complaints, .. } = count;
+    let Count { cases, calls, differences, complaints, .. } = count;
+    let outside: usize = count.outside.values().sum();
     println!("{name}cases {cases}, calls {calls}, outside {outside}, differences {differences}");
     if *complaints > 0 {
         println!("{name}{complaints} lines were not of the language, or panics that were not expected");
     }
 }
 
-/// Whether there was no difference.
+/// Whether no reason is above its bound.
+pub fn is_kept(kind: Kind, count: &Count) -> bool {
+    count.outside.iter().all(|(reason, n)| *n <= bound(kind, *reason, count.calls))
+}
+
+/// The calls of a kind that were not compared, by reason, and whether each reason kept its bound.
+pub fn print_outside(kind: Kind, count: &Count) -> bool {
+    for (reason, n) in &count.outside {
+        let most = bound(kind, *reason, count.calls);
+        let above = if *n > most { ", which is ABOVE it" } else { "" };
+        println!("{}: outside {} {n}, bound {most}{above}", kind.name(), reason.word());
+    }
+    is_kept(kind, count)
+}
+
+/// Whether there was no difference, and no reason for `outside` above its bound.
 pub fn compare(program: &str, kinds: &[Kind], seed: u64, count: usize) -> io::Result<bool> {
     let mut all = Count::default();
+    let mut all_kept = true;
     for kind in kinds {
         let cases = generate(&[*kind], seed, count.div_ceil(kinds.len())).map(|(_, case)| case);
         let counted = compare_cases(program, Box::new(cases))?;
         print_found(program, &counted)?;
         print_count(&format!("{}: ", kind.name()), &counted);
+        all_kept &= print_outside(*kind, &counted);
         all.add(counted);
     }
     print_count("", &all);
-    Ok(all.is_good())
+    Ok(all_kept && all.is_good())
 }

@@ -2,8 +2,10 @@
 
 mod asking;
 mod blocks;
+mod bounds;
 mod cases;
 mod compare;
+mod decks;
 mod operations;
 mod oracle;
 mod refusals;
@@ -19,8 +21,8 @@ use std::{
     process::ExitCode,
 };
 
-use cases::{Kind, SAMPLE_LINES, SAMPLE_SEED};
-use oracle::{OUTSIDE, Oracle};
+use cases::{Kind, SAMPLE_SEED};
+use oracle::{Oracle, outside};
 use scale::Programs;
 
 fn answer() -> io::Result<bool> {
@@ -52,10 +54,12 @@ fn generate(seed: u64, count: usize, kinds: &[Kind]) -> io::Result<bool> {
 fn sample(kinds: &[Kind]) -> io::Result<bool> {
     let mut oracle = Oracle::default();
     let mut out = BufWriter::new(io::stdout().lock());
-    for (_, case) in cases::generate(kinds, SAMPLE_SEED, SAMPLE_LINES) {
-        for line in case {
-            if oracle.answer(&line) != OUTSIDE {
-                writeln!(out, "{line}")?;
+    for kind in kinds {
+        for (_, case) in cases::generate(&[*kind], SAMPLE_SEED, kind.sample_lines()) {
+            for line in case {
+                if outside(&oracle.answer(&line)).is_none() {
+                    writeln!(out, "{line}")?;
+                }
             }
         }
     }

@@ -11,8 +11,8 @@ use rockusb::{
 use crate::{
     refusals::{operation_refusal, transport_refusal},
     stand::{Room, Stand},
-    text::{Answer, Stop, Tokens, show},
-    values::{SECTOR_BYTES_LIMIT, asked, flash_id_bytes, output, reset_opcode, show_index, storage_index},
+    text::{Answer, Reason, Stop, Tokens, show},
+    values::{flash_id_bytes, long_enough, output, reset_opcode, show_index, storage_index, whole_sectors},
 };
 
 /// What a finished operation gives, with a space before it.
@@ -89,7 +89,8 @@ enum End {
     Finished(String),
     Refused(String),
     OutOfSteps,
-    NoRoom,
+    /// 58 or 59.
+    NoRoom(u8),
 }
 
 struct Ran {
@@ -177,8 +178,8 @@ impl<O: OperationSteps<T>, T> OperationSteps<T> for &mut Budgeted<'_, O> {
             UsbStep::ReadBulk { data } => Last::Asked(asked_slice(data)),
             UsbStep::Finished(_) => Last::Finished,
             UsbStep::WriteControl { index, data, .. } => {
-                if !self.room.take(*index, data.len()) {
-                    self.cut_short = Some(End::NoRoom);
+                if let Err(number) = self.room.take(*index, data.len()) {
+                    self.cut_short = Some(End::NoRoom(number));
                     return leave;
                 }
                 Last::Sent
@@ -239,17 +240,15 @@ pub fn start(tokens: &mut Tokens) -> Result<Operation, Stop> {
             data = Lent::new(tokens.data()?);
             start_sectors(op, first, &data)?
         }
-        _ => return Err(Stop::Unreadable),
+        _ => return Err(Stop(Reason::Unreadable)),
     };
     tokens.end()?;
     Ok(Operation { steps, data, asked: None, at_command: true })
 }
 
 fn start_sectors(op: &str, first: u32, data: &Lent) -> Result<Box<dyn Steps>, Stop> {
-    if data.bytes().len() as u64 > SECTOR_BYTES_LIMIT {
-        return Err(Stop::Outside);
-    }
-    asked(|| match op {
+    whole_sectors(data.bytes().len() as u64)?;
+    Ok(match op {
         "rdl" => typed(rockusb::operation::read_lba(first, data.bytes_mut())),
         _ => typed(rockusb::operation::write_lba(first, data.bytes())),
     })
@@ -259,8 +258,8 @@ impl Operation {
     pub fn step(&mut self, tokens: &mut Tokens) -> Answer {
         let mut out = output(tokens)?;
         tokens.end()?;
-        if self.at_command && out.len() < COMMAND_BLOCK_BYTES {
-            return Err(Stop::Outside);
+        if self.at_command {
+            long_enough(&out, COMMAND_BLOCK_BYTES)?;
         }
         let at_command = self.at_command;
         self.at_command = false;
@@ -288,14 +287,13 @@ impl Operation {
     pub fn give(&mut self, tokens: &mut Tokens) -> Answer {
         let bytes = tokens.data()?;
         tokens.end()?;
-        match self.asked {
-            Some(asked) if bytes.len() <= asked.len => {
-                unsafe { std::ptr::copy(bytes.as_ptr(), asked.start, bytes.len()) };
-                self.asked = None;
-                Ok(format!("0 | {}", show(self.data.bytes())))
-            }
-            _ => Err(Stop::Outside),
+        let asked = self.asked.ok_or(Stop(Reason::NotAsked))?;
+        if bytes.len() > asked.len {
+            return Err(Stop(Reason::TooManyGiven));
         }
+        unsafe { std::ptr::copy(bytes.as_ptr(), asked.start, bytes.len()) };
+        self.asked = None;
+        Ok(format!("0 | {}", show(self.data.bytes())))
     }
 
     pub fn run(&mut self, tokens: &mut Tokens, stand: &mut Stand) -> Answer {
@@ -309,7 +307,12 @@ impl Operation {
             Last::Finished => self.stand_at(None, true),
         }
         let data = show(self.data.bytes());
-        Ok(format!("{} | {} | {data} | {}", said(ran.end)?, ran.steps, stand.show()))
+        Ok(format!("{} | {} | {data} | {}", said(ran.end), ran.steps, stand.show()))
+    }
+
+    /// What a run without a budget comes to.
+    pub fn ended(&mut self, stand: &mut Stand) -> String {
+        said(self.steps.run(stand, u64::MAX).end)
     }
 
     fn stand_at(&mut self, asked: Option<Asked>, at_command: bool) {
@@ -318,12 +321,12 @@ impl Operation {
     }
 }
 
-fn said(end: End) -> Answer {
+fn said(end: End) -> String {
     match end {
-        End::Finished(value) => Ok(format!("0{value}")),
-        End::Refused(refusal) => Ok(refusal),
-        End::OutOfSteps => Ok("28".into()),
-        End::NoRoom => Err(Stop::Outside),
+        End::Finished(value) => format!("0{value}"),
+        End::Refused(refusal) => refusal,
+        End::OutOfSteps => "28".into(),
+        End::NoRoom(number) => number.to_string(),
     }
 }
 
@@ -357,9 +360,7 @@ impl Upload {
     pub fn step(&mut self, tokens: &mut Tokens) -> Answer {
         let mut out = output(tokens)?;
         tokens.end()?;
-        if out.len() < UPLOAD_OUTPUT {
-            return Err(Stop::Outside);
-        }
+        long_enough(&out, UPLOAD_OUTPUT)?;
         let said = match self.steps.step() {
             Step::Control { header, data } => {
                 out[..data.len()].copy_from_slice(&data);
@@ -376,7 +377,13 @@ impl Upload {
         tokens.end()?;
         stand.expect(self.area);
         let ran = self.steps.run(stand, budget.into());
-        Ok(format!("{} | {} | {}", said(ran.end)?, ran.steps, stand.show()))
+        Ok(format!("{} | {} | {}", said(ran.end), ran.steps, stand.show()))
+    }
+
+    /// What a run without a budget comes to.
+    pub fn ended(&mut self, stand: &mut Stand) -> String {
+        stand.expect(self.area);
+        said(self.steps.run(stand, u64::MAX).end)
     }
 
     fn list(&mut self) -> String {
@@ -413,7 +420,7 @@ pub fn cut_list(tokens: &mut Tokens) -> Answer {
     let image = tokens.data()?;
     tokens.end()?;
     if !some {
-        return Err(Stop::Unreadable);
+        return Err(Stop(Reason::Unreadable));
     }
     Ok(upload_of(area, check, image).list())
 }

@@ -4,12 +4,15 @@ use std::panic::{AssertUnwindSafe, catch_unwind};
 
 use crate::{
     blocks,
+    decks::{self, Deck},
     operations::{self, Operation, Upload},
     stand::{self, Stand},
-    text::{Answer, Stop, Tokens},
+    text::{Answer, Reason, Stop, Tokens},
 };
 
-pub const OUTSIDE: &str = "outside";
+const OUTSIDE: &str = "outside ";
+/// The answer to a call at which the Rust panicked. The rules' domain has no such call, so it is a difference.
+pub const PANIC: &str = "panic";
 pub const LINE_LIMIT: usize = 4096;
 
 #[derive(Default)]
@@ -17,6 +20,7 @@ pub struct Oracle {
     operation: Option<Operation>,
     upload: Option<Upload>,
     device: Option<Stand>,
+    deck: Option<Deck>,
     complaints: Vec<String>,
     is_quiet: bool,
 }
@@ -41,21 +45,25 @@ impl Oracle {
 
     pub fn answer(&mut self, line: &str) -> String {
         match catch_unwind(AssertUnwindSafe(|| self.call(line))) {
-            Ok(Ok(answer)) => return answer,
-            Ok(Err(Stop::Outside)) => {}
-            Ok(Err(Stop::Unreadable)) => self.complain(format!("not of the language: {line}")),
+            Ok(Ok(answer)) => answer,
+            Ok(Err(Stop(reason))) => {
+                if reason == Reason::Unreadable {
+                    self.complain(format!("not of the language: {line}"));
+                }
+                format!("{OUTSIDE}{}", reason.word())
+            }
             Err(_) => {
                 let (complaints, is_quiet) = (std::mem::take(&mut self.complaints), self.is_quiet);
                 *self = Oracle { complaints, is_quiet, ..Oracle::default() };
                 self.complain(format!("a panic that was not expected: {line}"));
+                PANIC.into()
             }
         }
-        OUTSIDE.into()
     }
 
     fn call(&mut self, line: &str) -> Answer {
         if line.len() >= LINE_LIMIT {
-            return Err(Stop::Unreadable);
+            return Err(Stop(Reason::Unreadable));
         }
         let mut tokens = Tokens::new(line);
         let name = tokens.word()?;
@@ -84,7 +92,7 @@ impl Oracle {
                 Ok("0".into())
             }
             "ust" => there(&mut self.upload)?.step(tokens),
-            "urn" => self.run_upload(tokens),
+            "urn" => there(&mut self.upload)?.run(tokens, there(&mut self.device)?),
             "all" => operations::whole_list(tokens),
             "cut" => operations::cut_list(tokens),
             "dvd" => {
@@ -103,21 +111,24 @@ impl Oracle {
             "ctl" => there(&mut self.device)?.write_control(tokens),
             "are" => there(&mut self.device)?.area(tokens),
             "lst" => there(&mut self.device)?.last_reset(tokens),
-            _ => Err(Stop::Unreadable),
+            "dck" => {
+                let (deck, answer) = decks::start(tokens)?;
+                self.deck = Some(deck);
+                Ok(answer)
+            }
+            "blk" => there(&mut self.deck)?.deal(tokens),
+            "dev" => there(&mut self.deck)?.device(tokens),
+            _ => Err(Stop(Reason::Unreadable)),
         }
-    }
-
-    /// Where the store has no room the steps before were done: device and upload are lost.
-    fn run_upload(&mut self, tokens: &mut Tokens) -> Answer {
-        let answer = there(&mut self.upload)?.run(tokens, there(&mut self.device)?);
-        if answer == Err(Stop::Outside) {
-            self.upload = None;
-            self.device = None;
-        }
-        answer
     }
 }
 
 fn there<T>(thing: &mut Option<T>) -> Result<&mut T, Stop> {
-    thing.as_mut().ok_or(Stop::Outside)
+    thing.as_mut().ok_or(Stop(Reason::NotThere))
+}
+
+/// Why an answer is none, where it is none.
+pub fn outside(answer: &str) -> Option<Reason> {
+    let word = answer.strip_prefix(OUTSIDE)?;
+    Reason::ALL.into_iter().find(|reason| reason.word() == word)
 }

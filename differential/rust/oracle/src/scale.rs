@@ -10,11 +10,11 @@ use std::{
 
 use crate::{
     cases::{Kind, device, make::Rng, uploads},
-    compare::{Cases, Count, compare_cases, print_count, print_found},
+    compare::{Cases, Count, compare_cases, print_count, print_found, print_outside},
 };
 
 /// Random calls of each kind. Of uploads there are those of every length beside these.
-const CALLS: [(Kind, usize); 8] = [
+const CALLS: [(Kind, usize); 10] = [
     (Kind::Blocks, 3_000_000),
     (Kind::Status, 1_500_000),
     (Kind::Replies, 1_000_000),
@@ -23,6 +23,8 @@ const CALLS: [(Kind, usize); 8] = [
     (Kind::Runs, 600_000),
     (Kind::Uploads, 4_000),
     (Kind::Large, 400),
+    (Kind::Decks, 200_000),
+    (Kind::Sizes, 160),
 ];
 
 /// A kind's calls are asked in so many pieces, so that no core is left idle for long.
@@ -40,12 +42,16 @@ impl Programs {
             programs.extend(Kind::named(kinds)?.into_iter().map(|kind| (kind, command.to_string())));
         }
         let has = |kind: Kind| programs.iter().any(|(one, _)| *one == kind);
-        CALLS.iter().all(|(kind, _)| has(*kind)).then_some(Programs(programs))
+        let all = CALLS.iter().all(|(kind, _)| has(*kind) || *kind == Kind::Sizes);
+        all.then_some(Programs(programs))
+    }
+
+    fn find(&self, kind: Kind) -> Option<&str> {
+        self.0.iter().find(|(one, _)| *one == kind).map(|(_, command)| command.as_str())
     }
 
     fn of(&self, kind: Kind) -> &str {
-        let found = self.0.iter().find(|(one, _)| *one == kind);
-        &found.expect("each kind has its program").1
+        self.find(kind).expect("each kind that is asked has its program")
     }
 }
 
@@ -81,14 +87,25 @@ fn lengths_piece(piece: usize, mut rng: Rng, share: usize) -> Cases {
     Box::new(lengths.flat_map(move |len| uploads::of_every_length(&mut rng, len)))
 }
 
+/// The largest sizes hold a GiB: they are one job.
+fn sizes(rng: Rng, calls: usize) -> Job {
+    let fixed = Kind::Sizes.exhaustive().into_iter();
+    Job { kind: Kind::Sizes, cases: Box::new(fixed.chain(random_piece(Kind::Sizes, 0, rng, calls))) }
+}
+
 /// The long jobs first. Every job has a seed of its own, so that the order in which they end changes nothing.
-fn jobs(seed: u64, share: usize) -> Vec<Job> {
+fn jobs(programs: &Programs, seed: u64, share: usize) -> Vec<Job> {
     let mut seeds = Rng::new(seed);
     let mut jobs = Vec::new();
     for piece in 0..PIECES {
         jobs.push(Job { kind: Kind::Uploads, cases: lengths_piece(piece, Rng::new(seeds.next()), share) });
     }
     for (kind, calls) in CALLS.into_iter().rev() {
+        if kind == Kind::Sizes {
+            let job = sizes(Rng::new(seeds.next()), calls.div_ceil(share));
+            jobs.extend(programs.find(kind).is_some().then_some(job));
+            continue;
+        }
         for piece in 0..PIECES {
             let rng = Rng::new(seeds.next());
             jobs.push(Job { kind, cases: random_piece(kind, piece, rng, calls.div_ceil(PIECES * share)) });
@@ -112,11 +129,12 @@ fn work(
     }
 }
 
-/// Whether there was no difference. `share` takes one in so many of the calls.
+/// Whether there was no difference, and no reason for `outside` above its bound. `share` takes one in so many of the
+/// calls.
 pub fn scale(programs: &Programs, seed: u64, share: usize) -> io::Result<bool> {
     println!("seed {seed}");
     let began = Instant::now();
-    let jobs = Mutex::new(jobs(seed, share).into_iter());
+    let jobs = Mutex::new(jobs(programs, seed, share).into_iter());
     let counts = Mutex::new(BTreeMap::new());
     let cores = thread::available_parallelism().map_or(1, |n| n.get());
     thread::scope(|scope| {
@@ -129,13 +147,19 @@ pub fn scale(programs: &Programs, seed: u64, share: usize) -> io::Result<bool> {
 
 fn report(programs: &Programs, mut counts: BTreeMap<&str, Count>, took: Duration) -> io::Result<bool> {
     let mut all = Count::default();
+    let mut all_kept = true;
     for (kind, _) in CALLS {
+        if programs.find(kind).is_none() {
+            println!("{}: not asked, since no program was named for it", kind.name());
+            continue;
+        }
         let count = counts.remove(kind.name()).unwrap_or_default();
         print_found(programs.of(kind), &count)?;
         print_count(&format!("{}: ", kind.name()), &count);
+        all_kept &= print_outside(kind, &count);
         all.add(count);
     }
     println!("{} seconds", took.as_secs());
     print_count("", &all);
-    Ok(all.is_good())
+    Ok(all_kept && all.is_good())
 }

@@ -1,6 +1,9 @@
 //! Shows that each part works, and prints the faults of the Rust that the rules refuse.
 
-use std::{fs, io};
+use std::{
+    fs, io,
+    panic::{AssertUnwindSafe, catch_unwind},
+};
 
 use rockusb::{
     device::Transport,
@@ -10,10 +13,17 @@ use rockusb::{
 use rockusb_mock::MockDevice;
 
 use crate::{
-    cases::{ALL, Kind, SAMPLE_LINES, SAMPLE_SEED, generate, make::Case},
-    oracle::{LINE_LIMIT, OUTSIDE, Oracle},
-    values::asked,
+    bounds::bound,
+    cases::{ALL, Kind, SAMPLE_SEED, generate, make::Case},
+    compare::{Count, is_kept},
+    oracle::{LINE_LIMIT, Oracle, PANIC, outside},
+    text::Reason,
 };
+
+/// A call of the Rust that may panic: none where it did.
+fn asked<R>(call: impl FnOnce() -> R) -> Option<R> {
+    catch_unwind(AssertUnwindSafe(call)).ok()
+}
 
 /// Whether everything held.
 pub fn selftest(page: &str) -> io::Result<bool> {
@@ -23,7 +33,8 @@ pub fn selftest(page: &str) -> io::Result<bool> {
         ("one tag is drawn by each constructor", draws()),
         ("generated cases are of the language", generated()),
         ("samples hold no `outside` and answer as in their full cases", samples()),
-        ("a store that is full loses device and upload", lost()),
+        ("58 and 59 leave the device and the upload as the rules say", refused_by_the_store()),
+        ("a reason above its bound fails a run, and so does a panic", bounded()),
         ("faults of the Rust", faults()),
     ];
     let mut held = true;
@@ -89,7 +100,18 @@ fn documented() -> Vec<String> {
     ] {
         check(&mut bad, &mut oracle, line, wanted);
     }
+    bad.extend(documented_deck());
     bad
+}
+
+/// The three blocks that the rules give in whole.
+fn documented_deck() -> Vec<String> {
+    let mut oracle = Oracle::default();
+    let lines = &Kind::Decks.exhaustive()[1];
+    let dealt: Vec<String> = lines.iter().map(|line| oracle.answer(line)).collect();
+    let wanted = ["1 0 0900000000000000", "2 0 512", "3 57 -"];
+    let got: Vec<&String> = dealt.iter().skip(1).step_by(2).collect();
+    if got == wanted { Vec::new() } else { vec![format!("the rules' deck: {got:?}")] }
 }
 
 fn draws() -> Vec<String> {
@@ -106,7 +128,7 @@ fn draws() -> Vec<String> {
 }
 
 fn cases_of(kind: Kind) -> Vec<Case> {
-    generate(&[kind], SAMPLE_SEED, SAMPLE_LINES).map(|(_, case)| case).collect()
+    generate(&[kind], SAMPLE_SEED, kind.sample_lines()).map(|(_, case)| case).collect()
 }
 
 fn generated() -> Vec<String> {
@@ -130,7 +152,7 @@ fn samples() -> Vec<String> {
         let (mut full, mut kept) = (Oracle::default(), Oracle::default());
         for line in cases_of(kind).concat() {
             let answer = full.answer(&line);
-            if answer != OUTSIDE {
+            if outside(&answer).is_none() {
                 check(&mut bad, &mut kept, &line, &answer);
             }
         }
@@ -138,19 +160,50 @@ fn samples() -> Vec<String> {
     bad
 }
 
-fn lost() -> Vec<String> {
+fn refused_by_the_store() -> Vec<String> {
     let mut bad = Vec::new();
     let mut oracle = Oracle::default();
     for (line, wanted) in [
         ("dvc 32768 1 f 16 0 f 5 0 f 8 0 f 5 0 x", "0 | 0: | 0 | 0"),
         ("upl 5 1 r 4096 0", "0"),
-        ("urn 9", OUTSIDE),
-        ("lst", OUTSIDE),
-        ("ust 4096 0", OUTSIDE),
-        ("dvd 0", "0 | 65536#38d75dbe | 0 | 0"),
-        ("lst", "0 0"),
+        ("urn 9", "59 | 2 | 0: | 1 5 4096#c2db809d | 0"),
+        ("ust 4096 0", "0 3 | 4096#8af9dada"),
+        ("ctl 64 12 0 5 x", "0 | 0: | 1 5 4096#c2db809d | 0"),
+        ("ctl 64 12 0 5 x00", "59 | 0: | 1 5 4096#c2db809d | 0"),
+        ("dvc 7 1 f 16 0 f 5 0 f 8 0 f 5 0 x", "0 | 0: | 0 | 0"),
+        ("ctl 64 12 0 1 x", "0 | 0: | 1 1 0: | 0"),
+        ("ctl 64 12 0 1 x00", "59 | 0: | 1 1 0: | 0"),
+        ("ctl 64 12 0 2 x", "0 | 0: | 2 1 0: 2 0: | 0"),
+        ("ctl 64 12 0 3 x", "0 | 0: | 3 1 0: 2 0: 3 0: | 0"),
+        ("ctl 64 12 0 4 x", "0 | 0: | 4 1 0: 2 0: 3 0: 4 0: | 0"),
+        ("ctl 64 12 0 5 x", "0 | 0: | 5 1 0: 2 0: 3 0: 4 0: 5 0: | 0"),
+        ("ctl 64 12 0 6 x", "0 | 0: | 6 1 0: 2 0: 3 0: 4 0: 5 0: 6 0: | 0"),
+        ("ctl 64 12 0 7 x", "0 | 0: | 7 1 0: 2 0: 3 0: 4 0: 5 0: 6 0: 7 0: | 0"),
+        ("ctl 64 12 0 8 x", "0 | 0: | 8 1 0: 2 0: 3 0: 4 0: 5 0: 6 0: 7 0: 8 0: | 0"),
+        ("ctl 64 12 0 9 x00", "58 | 0: | 8 1 0: 2 0: 3 0: 4 0: 5 0: 6 0: 7 0: 8 0: | 0"),
+        ("ctl 64 13 0 9 x00", "51 64 13 0 | 0: | 8 1 0: 2 0: 3 0: 4 0: 5 0: 6 0: 7 0: 8 0: | 0"),
     ] {
         check(&mut bad, &mut oracle, line, wanted);
+    }
+    bad
+}
+
+fn bounded() -> Vec<String> {
+    let mut bad = Vec::new();
+    let most = bound(Kind::Operations, Reason::NotAsked, 10_000);
+    for (kind, reason, n, wanted) in [
+        (Kind::Operations, Reason::NotAsked, most, true),
+        (Kind::Operations, Reason::NotAsked, most + 1, false),
+        (Kind::Device, Reason::NotAsked, 1, false),
+        (Kind::Decks, Reason::Unreadable, 1, false),
+    ] {
+        let count = Count { calls: 10_000, outside: [(reason, n)].into(), ..Count::default() };
+        if is_kept(kind, &count) != wanted {
+            bad.push(format!("{}: {} {n}", kind.name(), reason.word()));
+        }
+    }
+    if outside(PANIC).is_some() {
+        bad.push("a panic is not compared".into());
     }
     bad
 }
@@ -201,8 +254,8 @@ fn odd_lengths() -> Vec<String> {
     let mut bad = Vec::new();
     for len in [1, 511, 513] {
         let mut data = vec![0; len];
-        let write = asked(|| write_lba(0, &data)).is_err();
-        let read = asked(|| read_lba(0, &mut data)).is_err();
+        let write = asked(|| write_lba(0, &data)).is_none();
+        let read = asked(|| read_lba(0, &mut data)).is_none();
         println!("  {len} bytes: write_lba {}, read_lba {}", panics(write), panics(read));
         if !write || !read {
             bad.push(format!("{len}: a panic was wanted"));
@@ -215,14 +268,14 @@ fn short_outputs() -> Vec<String> {
     let mut bad = Vec::new();
     for (len, wanted) in [(23, None), (24, Some(31)), (30, Some(31))] {
         let mut out = vec![0; len];
-        let count = asked(|| CommandBlock::chip_info().to_bytes(&mut out)).ok();
+        let count = asked(|| CommandBlock::chip_info().to_bytes(&mut out));
         println!("  CommandBlock::to_bytes into {len} bytes: {}", answers(count));
         if count != wanted {
             bad.push(format!("{len}: {wanted:?} was wanted"));
         }
     }
     let status = CommandStatus { tag: 0, residue: 0, status: Status::SUCCESS };
-    let count = asked(|| status.to_bytes(&mut [0; 12])).ok();
+    let count = asked(|| status.to_bytes(&mut [0; 12]));
     println!("  CommandStatus::to_bytes into 12 bytes: {}", answers(count));
     if count.is_some() {
         bad.push("12: a panic was wanted".into());

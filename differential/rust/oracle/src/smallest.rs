@@ -10,29 +10,29 @@ use crate::{
     cases::make::Case,
 };
 
-/// The two sides are asked no more for one difference after so long.
-const LONGEST: Duration = Duration::from_secs(60);
+/// The two sides are asked no more for the differences of a kind after so long.
+pub const LONGEST: Duration = Duration::from_secs(20);
 
 /// A block of an upload and a sector: some lengths only differ at such distances.
 const STEPS: [u64; 2] = [4096, 512];
 
 struct Search<'a> {
     program: &'a str,
-    began: Instant,
+    until: Instant,
     best: Difference,
 }
 
 /// None where the case does not differ when it is asked alone.
-pub fn smallest(program: &str, case: &Case) -> io::Result<Option<Difference>> {
+pub fn smallest(program: &str, case: &Case, until: Instant) -> io::Result<Option<Difference>> {
     let Some(best) = differ(program, case)? else {
         return Ok(None);
     };
-    let mut search = Search { program, began: Instant::now(), best };
+    let mut search = Search { program, until, best };
     loop {
         let before = search.best.case.clone();
         search.drop_lines()?;
         search.lessen()?;
-        if search.best.case == before || search.began.elapsed() >= LONGEST {
+        if search.best.case == before || Instant::now() >= search.until {
             return Ok(Some(search.best));
         }
     }
@@ -41,7 +41,7 @@ pub fn smallest(program: &str, case: &Case) -> io::Result<Option<Difference>> {
 impl Search<'_> {
     /// Whether a smaller case differs too; it then takes the place of the best.
     fn took(&mut self, case: Case) -> io::Result<bool> {
-        if self.began.elapsed() >= LONGEST {
+        if Instant::now() >= self.until {
             return Ok(false);
         }
         let found = differ(self.program, &case)?;

@@ -11,29 +11,32 @@ use rockusb_mock::{MockConfigError, MockDevice, MockDeviceConfig, MockState};
 
 use crate::{
     refusals::transport_refusal,
-    text::{Answer, Stop, Tokens, show},
+    text::{Answer, Reason, Stop, Tokens, show},
     values::output,
 };
 
 const SLOTS: usize = 8;
-const STORE_LIMIT: u64 = 65_536;
+/// Slots for images of 10,000 transfers.
+const STORE_LIMIT: u64 = 335_544_320;
 const FLASH_LIMIT: usize = 65_536 * SECTOR_SIZE as usize;
 
-/// The bounded store of the rules, which the Rust does not have: only whether a write would fit.
+/// The bounded store of the rules, which the Rust does not have: only whether a write fits, or is 58 or 59.
 pub struct Room {
     slot: usize,
     held: BTreeMap<u16, usize>,
 }
 
 impl Room {
-    pub fn take(&mut self, area: u16, more: usize) -> bool {
-        let free = self.held.len() < SLOTS || self.held.contains_key(&area);
-        let after = self.held.get(&area).unwrap_or(&0) + more;
-        let fits = free && after <= self.slot;
-        if fits {
-            self.held.insert(area, after);
+    pub fn take(&mut self, area: u16, more: usize) -> Result<(), u8> {
+        if !self.held.contains_key(&area) && self.held.len() == SLOTS {
+            return Err(58);
         }
-        fits
+        let after = self.held.get(&area).unwrap_or(&0) + more;
+        if after > self.slot {
+            return Err(59);
+        }
+        self.held.insert(area, after);
+        Ok(())
     }
 }
 
@@ -56,7 +59,7 @@ impl OperationSteps<()> for Once<'_> {
 pub fn start_default(tokens: &mut Tokens) -> Result<(Stand, String), Stop> {
     let store = tokens.up_to(STORE_LIMIT)? as usize;
     tokens.end()?;
-    Ok(started(Stand { mock: MockDevice::default(), store, named: BTreeSet::new() }))
+    Ok(started(Stand::fresh(store)))
 }
 
 fn started(stand: Stand) -> (Stand, String) {
@@ -79,7 +82,7 @@ pub fn start_configured(tokens: &mut Tokens) -> Result<(Option<Stand>, String), 
     let sectors_fit = config.flash.len() <= FLASH_LIMIT;
     match MockDevice::new(config) {
         Err(MockConfigError::FlashSize(len)) => Ok((None, format!("60 {len}"))),
-        Ok(_) if !sectors_fit => Err(Stop::Outside),
+        Ok(_) if !sectors_fit => Err(Stop(Reason::FlashTooLarge)),
         Ok(mock) => {
             let (stand, answer) = started(Stand { mock, store, named: BTreeSet::new() });
             Ok((Some(stand), answer))
@@ -88,6 +91,11 @@ pub fn start_configured(tokens: &mut Tokens) -> Result<(Option<Stand>, String), 
 }
 
 impl Stand {
+    /// The Rust's default device.
+    pub fn fresh(store: usize) -> Stand {
+        Stand { mock: MockDevice::default(), store, named: BTreeSet::new() }
+    }
+
     pub fn transport(&mut self) -> &mut MockState {
         self.mock.device().transport_mut()
     }
@@ -149,8 +157,8 @@ impl Stand {
         let data = tokens.data()?;
         tokens.end()?;
         let an_area = (request_type, request, value) == (0x40, 0xc, 0);
-        if an_area && !self.room().take(index, data.len()) {
-            return Err(Stop::Outside);
+        if an_area && let Err(number) = self.room().take(index, data.len()) {
+            return Ok(format!("{number} | {}", self.show()));
         }
         self.expect(index);
         let said = self.call(UsbStep::WriteControl { request_type, request, value, index, data: &data });

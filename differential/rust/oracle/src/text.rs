@@ -1,18 +1,66 @@
 //! Tokens of a line, data arguments, and how bytes are shown: the rules of LANGUAGE.md.
 
-/// Why a line has no answer from the Rust.
-#[derive(Debug, PartialEq, Eq)]
-pub enum Stop {
+/// Why the Rust has no answer to a line in the rules' domain.
+#[derive(Clone, Copy, Debug, PartialEq, Eq, PartialOrd, Ord)]
+pub enum Reason {
+    /// 20: the Rust panics or writes less.
+    ShortOutput,
+    /// 21.
+    TooManyGiven,
+    /// 22.
+    NotAsked,
+    /// 23: the Rust panics.
+    NotSectors,
+    /// 24: the Rust narrows.
+    TooManySectors,
+    /// 61.
+    FlashTooLarge,
+    /// An array of another size than the Rust's.
+    ArraySize,
+    /// An operation, upload, device or deck that was not started, was refused at its start, or is over.
+    NotThere,
     /// Not of the language.
     Unreadable,
-    /// The Rust does not have the case in the rules' domain.
-    Outside,
 }
+
+impl Reason {
+    pub const ALL: [Reason; 9] = [
+        Reason::ShortOutput,
+        Reason::TooManyGiven,
+        Reason::NotAsked,
+        Reason::NotSectors,
+        Reason::TooManySectors,
+        Reason::FlashTooLarge,
+        Reason::ArraySize,
+        Reason::NotThere,
+        Reason::Unreadable,
+    ];
+
+    pub fn word(self) -> &'static str {
+        match self {
+            Reason::ShortOutput => "short-output",
+            Reason::TooManyGiven => "too-many-given",
+            Reason::NotAsked => "not-asked",
+            Reason::NotSectors => "not-sectors",
+            Reason::TooManySectors => "too-many-sectors",
+            Reason::FlashTooLarge => "flash-too-large",
+            Reason::ArraySize => "array-size",
+            Reason::NotThere => "not-there",
+            Reason::Unreadable => "unreadable",
+        }
+    }
+}
+
+/// Why a line has no answer from the Rust.
+#[derive(Debug, PartialEq, Eq)]
+pub struct Stop(pub Reason);
 
 pub type Answer = Result<String, Stop>;
 
 /// The oracle takes more than the programs need to: the faults of the Rust begin at 33,554,432 bytes.
 const DATA_LIMIT: u64 = 64 << 20;
+
+const UNREADABLE: Stop = Stop(Reason::Unreadable);
 
 pub struct Tokens<'a>(std::str::Split<'a, char>);
 
@@ -24,15 +72,15 @@ impl<'a> Tokens<'a> {
     pub fn word(&mut self) -> Result<&'a str, Stop> {
         match self.0.next() {
             Some(word) if !word.is_empty() => Ok(word),
-            _ => Err(Stop::Unreadable),
+            _ => Err(UNREADABLE),
         }
     }
 
     pub fn up_to(&mut self, limit: u64) -> Result<u64, Stop> {
         let word = self.word()?;
         let plain = word.bytes().all(|b| b.is_ascii_digit()) && (word == "0" || !word.starts_with('0'));
-        let number = word.parse().map_err(|_| Stop::Unreadable)?;
-        if plain && number <= limit { Ok(number) } else { Err(Stop::Unreadable) }
+        let number = word.parse().map_err(|_| UNREADABLE)?;
+        if plain && number <= limit { Ok(number) } else { Err(UNREADABLE) }
     }
 
     pub fn u8(&mut self) -> Result<u8, Stop> {
@@ -58,24 +106,24 @@ impl<'a> Tokens<'a> {
     pub fn data(&mut self) -> Result<Vec<u8>, Stop> {
         let word = self.word()?;
         if let Some(digits) = word.strip_prefix('x') {
-            return unhex(digits).ok_or(Stop::Unreadable);
+            return unhex(digits).ok_or(UNREADABLE);
         }
         let len = self.len()?;
         match word {
             "f" => Ok(vec![self.u8()?; len]),
             "r" => Ok(ramp(len, self.u8()?)),
             "s" => Ok(seeded(len, self.u32()?)),
-            _ => Err(Stop::Unreadable),
+            _ => Err(UNREADABLE),
         }
     }
 
     /// Data of exactly N bytes; another size has no such call in the Rust.
     pub fn array<const N: usize>(&mut self) -> Result<[u8; N], Stop> {
-        self.data()?.try_into().map_err(|_| Stop::Outside)
+        self.data()?.try_into().map_err(|_| Stop(Reason::ArraySize))
     }
 
     pub fn end(&mut self) -> Result<(), Stop> {
-        if self.0.next().is_none() { Ok(()) } else { Err(Stop::Unreadable) }
+        if self.0.next().is_none() { Ok(()) } else { Err(UNREADABLE) }
     }
 }
 

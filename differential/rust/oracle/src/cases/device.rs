@@ -211,7 +211,7 @@ fn default_device() -> Case {
 }
 
 pub fn random_start(rng: &mut Rng, store: usize) -> (String, usize) {
-    let sectors = rng.pick(&[0, 1, 2, 4, 8, 16]);
+    let sectors = if rng.one_in(60) { rng.pick(&[64, 127, 128]) } else { rng.pick(&[0, 1, 2, 4, 8, 16]) };
     let flash = any_data(rng, sectors * 512);
     let bytes = |rng: &mut Rng, len| x(&rng.bytes(len));
     let (chip, id, capability, extra) = (bytes(rng, 16), bytes(rng, 5), bytes(rng, 8), bytes(rng, 5));
@@ -260,7 +260,8 @@ pub fn transaction(rng: &mut Rng, sectors: usize) -> Vec<String> {
         4 | 5 => READ_LBA,
         _ => WRITE_LBA,
     };
-    let mut count = rng.below(sectors.min(6) + 1);
+    let most = if rng.one_in(20) { sectors.min(127) } else { sectors.min(6) };
+    let mut count = rng.below(most + 1);
     if rng.one_in(10) {
         count += 1;
     }

@@ -1,11 +1,13 @@
 //! Makers of cases: `exhaustive` lists that need no seed, and one `random` case at a time.
 
 pub mod blocks;
+pub mod decks;
 pub mod device;
 pub mod make;
 pub mod operations;
 pub mod replies;
 pub mod runs;
+pub mod sizes;
 pub mod status;
 pub mod uploads;
 
@@ -20,12 +22,23 @@ pub enum Kind {
     Device,
     Runs,
     Uploads,
+    Decks,
     /// Images to 4 MiB; not one of `all`.
     Large,
+    /// Flashes to 65,536 sectors; not one of `all`.
+    Sizes,
 }
 
-pub const ALL: [Kind; 7] =
-    [Kind::Blocks, Kind::Status, Kind::Replies, Kind::Operations, Kind::Device, Kind::Runs, Kind::Uploads];
+pub const ALL: [Kind; 8] = [
+    Kind::Blocks,
+    Kind::Status,
+    Kind::Replies,
+    Kind::Operations,
+    Kind::Device,
+    Kind::Runs,
+    Kind::Uploads,
+    Kind::Decks,
+];
 
 impl Kind {
     pub fn name(self) -> &'static str {
@@ -37,7 +50,9 @@ impl Kind {
             Kind::Device => "device",
             Kind::Runs => "runs",
             Kind::Uploads => "uploads",
+            Kind::Decks => "decks",
             Kind::Large => "large",
+            Kind::Sizes => "sizes",
         }
     }
 
@@ -45,7 +60,7 @@ impl Kind {
         if name == "all" {
             return Some(ALL.to_vec());
         }
-        let found = ALL.into_iter().chain([Kind::Large]).find(|kind| kind.name() == name)?;
+        let found = ALL.into_iter().chain([Kind::Large, Kind::Sizes]).find(|kind| kind.name() == name)?;
         Some(vec![found])
     }
 
@@ -58,7 +73,9 @@ impl Kind {
             Kind::Device => device::exhaustive(),
             Kind::Runs => runs::exhaustive(),
             Kind::Uploads => uploads::exhaustive(),
+            Kind::Decks => decks::exhaustive(),
             Kind::Large => Vec::new(),
+            Kind::Sizes => sizes::exhaustive(),
         }
     }
 
@@ -71,8 +88,15 @@ impl Kind {
             Kind::Device => device::random(rng),
             Kind::Runs => runs::random(rng),
             Kind::Uploads => uploads::random(rng),
+            Kind::Decks => decks::random(rng),
             Kind::Large => uploads::large(rng),
+            Kind::Sizes => sizes::random(rng),
         }
+    }
+
+    /// Random lines of the sample that stands in the gate. A block of a deck is a line of a thousand letters.
+    pub fn sample_lines(self) -> usize {
+        if self == Kind::Decks { 100 } else { 400 }
     }
 }
 
@@ -97,6 +121,5 @@ pub fn generate(kinds: &[Kind], seed: u64, count: usize) -> impl Iterator<Item =
     fixed.into_iter().chain(random)
 }
 
-/// Seed and number of random lines of the sample that stands in the gate.
+/// Seed of the sample that stands in the gate.
 pub const SAMPLE_SEED: u64 = 1137;
-pub const SAMPLE_LINES: usize = 400;

@@ -195,7 +195,8 @@ pub fn random_op(rng: &mut Rng, sectors: usize) -> Op {
     let name = rng
         .pick(&["chp", "fid", "fin", "cap", "sto", "era", "erf", "rst", "swi", "rdl", "wrl", "rdl", "wrl"]);
     let first = if rng.one_in(6) { rng.word() } else { rng.below(sectors + 2) as u32 };
-    let len = rng.below(5.min(sectors + 2)) * 512;
+    let most = if rng.one_in(8) { 129 } else { 5 };
+    let len = rng.below(most.min(sectors + 2)) * 512;
     let (args, reads, writes) = match name {
         "chp" => (String::new(), 16, 0),
         "fid" => (String::new(), 5, 0),

@@ -154,14 +154,13 @@ pub fn random(rng: &mut Rng) -> Case {
     let store = if rng.one_in(10) { rng.pick(&[0, 64, 4096, 32_768]) } else { 65_536 };
     let (start, sectors) = random_start(rng, store);
     let mut lines = vec![start];
-    let mut uploads = 0;
     let until = 20 + rng.below(60);
     while lines.len() < until {
         match rng.below(8) {
-            // Few and to areas of their own, so that few cases end for want of room.
-            0 if uploads < 5 => {
-                uploads += 1;
-                random_upload(rng, 100 + uploads, &mut lines);
+            // To areas of which one in ten finds no slot.
+            0 => {
+                let area = 100 + rng.below(9);
+                random_upload(rng, area, &mut lines);
             }
             1 => lines.extend(transaction(rng, sectors).into_iter().take(1)),
             2 => lines.push(control(rng, 3)),
@@ -179,7 +178,12 @@ fn random_run(rng: &mut Rng, sectors: usize, lines: &mut Vec<String>) {
     while rng.one_in(4) {
         lines.push(format!("run {}", rng.below(4)));
     }
-    lines.push(format!("run {}", 4 + rng.below(3)));
+    lines.push(format!("run {}", enough(rng)));
+}
+
+/// A budget that an operation, and most uploads, can't use up.
+fn enough(rng: &mut Rng) -> usize {
+    if rng.one_in(4) { 4 + rng.below(9_997) } else { 4 + rng.below(3) }
 }
 
 fn random_upload(rng: &mut Rng, area: usize, lines: &mut Vec<String>) {
@@ -192,7 +196,7 @@ fn random_upload(rng: &mut Rng, area: usize, lines: &mut Vec<String>) {
         while rng.one_in(3) {
             lines.push(format!("urn {}", rng.below(3)));
         }
-        lines.push(format!("urn {}", 4 + rng.below(3)));
+        lines.push(format!("urn {}", enough(rng)));
         len = if len < 8000 { rng.below(50) } else { 0 };
     }
 }

@@ -1,4 +1,7 @@
-// The sections of the device: its flash, its areas and its last reset.
+// The sections of a device in an answer of the language of cases: its flash, its areas and its last reset.
+//
+// Test support: its functions promise only that they are safe and end.
+use mock::device::MockState;
 use mock_areas::Area;
 use mock_areas::AreaFound;
 use mock_areas::Areas;
@@ -9,7 +12,6 @@ use replay_answers::out::spaced_bytes;
 use replay_answers::out::text;
 use replay_answers::out::told_values;
 use replay_answers::out::value;
-use replay_device::devices::Device;
 use replay_device::devices::reset_told;
 use replay_lines::buffer::between;
 use replay_lines::line::after;
@@ -90,25 +92,8 @@ fn reset_text(out: &mut [u8], at: usize, last: LastReset) -> usize {
 }
 
 // FLASH | AREAS | RESET
-fn shown(out: &mut [u8], at: usize, device: Device, flash: &[u8], store: &[u8]) -> usize {
-    let state = device.state;
-    let next = section(out, at, true, flash, device.flash);
-    let next = areas_text(out, next, state.areas, between(store, 0, device.store));
+pub fn device(out: &mut [u8], at: usize, state: MockState, flash: &[u8], store: &[u8]) -> usize {
+    let next = section(out, at, true, flash, flash.len());
+    let next = areas_text(out, next, state.areas, store);
     reset_text(out, next, state.last_reset())
-}
-
-// The device's sections, where the answer has them and there is a device.
-pub(crate) fn show(
-    out: &mut [u8],
-    at: usize,
-    is_shown: bool,
-    device: Device,
-    flash: &[u8],
-    store: &[u8],
-) -> usize {
-    if is_shown && device.is_there {
-        shown(out, at, device, flash, store)
-    } else {
-        at
-    }
 }

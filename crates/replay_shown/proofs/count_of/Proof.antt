@@ -1,8 +1,8 @@
 -- Eight turns, each at an index of the array.
 use Prim.Native.Nat.{_-_}
 use borrow.Author.Needs.{needs}
-use Rattle.replay_runs.proofs.shown.count_of.Statement.{statement}
-use Rattle.replay_runs.proofs.shown.count_of.Tie as tie
+use Rattle.replay_shown.proofs.count_of.Statement.{statement}
+use Rattle.replay_shown.proofs.count_of.Tie as tie
 
 abbrev Inv-loop : tie.InvT-loop
 Inv-loop slots count₀ i₀ count i = Unit {0}

@@ -1,8 +1,8 @@
 -- Eight turns, each at an index of the array.
 use Prim.Native.Nat.{_-_}
 use borrow.Author.Needs.{needs}
-use Rattle.replay_runs.proofs.shown.next_area.Statement.{statement}
-use Rattle.replay_runs.proofs.shown.next_area.Tie as tie
+use Rattle.replay_shown.proofs.next_area.Statement.{statement}
+use Rattle.replay_shown.proofs.next_area.Tie as tie
 
 abbrev Inv-loop : tie.InvT-loop
 Inv-loop from slots best₀ i₀ best i = Unit {0}

@@ -2,8 +2,8 @@
 use mathlib.Core.Path.{_≡_}
 use lib.ListN.{length}
 use borrow.Author.Needs.{needs}
-use Rattle.replay_runs.proofs.shown.area_list.Statement.{statement}
-use Rattle.replay_runs.proofs.shown.area_list.Tie as tie
+use Rattle.replay_shown.proofs.area_list.Statement.{statement}
+use Rattle.replay_shown.proofs.area_list.Tie as tie
 
 abbrev Inv-loop : tie.InvT-loop
 Inv-loop out₀ at areas slots store next₀ number₀ turns₀ out next number turns = length out ≡ length out₀

@@ -1,0 +1,206 @@
+//! Decks: a fresh bench, and blocks dealt to it.
+
+use crate::decks::check;
+
+use super::make::{Case, Rng, x};
+
+/// A block by its fields, so that cases can hold blocks of any damage.
+fn block(kind: u8, word: u32, half: u16, byte: u8) -> Vec<u8> {
+    let mut block = vec![0; 512];
+    block[0] = kind;
+    block[1..5].copy_from_slice(&word.to_be_bytes());
+    block[5..7].copy_from_slice(&half.to_be_bytes());
+    block[7] = byte;
+    checked(block)
+}
+
+fn checked(mut block: Vec<u8>) -> Vec<u8> {
+    let check = check(&block[..510]);
+    block[510..].copy_from_slice(&check.to_be_bytes());
+    block
+}
+
+fn deal(block: &[u8]) -> String {
+    format!("blk {}", x(block))
+}
+
+/// Each block followed by the whole device.
+fn shown(blocks: impl IntoIterator<Item = Vec<u8>>) -> Case {
+    let mut lines = vec!["dck".to_string()];
+    for block in blocks {
+        lines.extend([deal(&block), "dev".into()]);
+    }
+    lines
+}
+
+pub fn exhaustive() -> Vec<Case> {
+    let documented = [block(4, 0, 0, 0), block(8, 127, 1, 0xaa), block(8, 128, 1, 0xaa)];
+    vec![
+        shown([]),
+        shown(documented),
+        shown((1..=13).map(|kind| block(kind, 3, 2, 1))),
+        shown(edges()),
+        shown(refused()),
+        shown(full_areas()),
+        shown(one_area_filled()),
+        short(&block(8, 0, 1, 9), 511),
+        short(&block(12, 9, 1, 9), 1),
+    ]
+}
+
+/// Reads, writes and erases at the ends of the flash.
+fn edges() -> Vec<Vec<u8>> {
+    let mut blocks = Vec::new();
+    for (first, count) in
+        [(127, 1), (127, 2), (128, 0), (128, 1), (112, 16), (113, 16), (0, 16), (u32::MAX, 1)]
+    {
+        blocks.push(block(8, first, count, count as u8 + 1));
+        blocks.push(block(7, first, count, 0));
+    }
+    for (kind, first, count) in [
+        (5, 127, 1),
+        (6, 0, 1),
+        (5, 126, 3),
+        (6, 129, 0),
+        (5, 64, 64),
+        (6, 0, 65_535),
+        (5, 0, 129),
+        (5, 0, 128),
+    ] {
+        blocks.push(block(kind, first, count, 0));
+    }
+    blocks
+}
+
+/// Every refusal of a block, one and two at a time: which one is named, and that the device is not touched.
+fn refused() -> Vec<Vec<u8>> {
+    let mut blocks = vec![block(8, 5, 1, 7)];
+    for (kind, word, half, byte) in [
+        (0, 0, 0, 0),
+        (14, 0, 0, 0),
+        (255, 0, 0, 0),
+        (7, 0, 17, 0),
+        (8, 0, 17, 1),
+        (8, 0, 65_535, 1),
+        (12, 8_193, 1, 1),
+        (13, u32::MAX, 1, 1),
+        (9, 0, 0, 5),
+        (9, 0, 0, 255),
+        (9, 0, 17, 4),
+        (5, 8_193, 17, 9),
+    ] {
+        blocks.push(block(kind, word, half, byte));
+    }
+    for at in [8, 9, 255, 256, 508, 509] {
+        for kind in [8, 0, 9] {
+            let mut block = block(kind, 1, 17, 9);
+            block[at] = 1;
+            blocks.push(checked(block));
+        }
+    }
+    for at in [0, 7, 8, 509, 510, 511] {
+        let mut block = block(8, 5, 1, 9);
+        block[at] ^= 1;
+        blocks.push(block);
+    }
+    blocks
+}
+
+/// Eight areas, then a ninth (58); what is held still grows.
+fn full_areas() -> Vec<Vec<u8>> {
+    let mut blocks: Vec<_> =
+        [9, 1, 65_535, 0, 3, 700, 2, 8].map(|area| block(12, u32::from(area) % 11, area, 0x5a)).to_vec();
+    blocks.extend([block(12, 0, 4, 1), block(13, 8_192, 5, 1), block(13, 5, 700, 2), block(12, 0, 4, 1)]);
+    blocks
+}
+
+/// To the slot's last byte, past it (59), and images that do not fit in an empty one: their first transfers stay.
+fn one_area_filled() -> Vec<Vec<u8>> {
+    let mut blocks = Vec::new();
+    for (kind, length, area) in [
+        (13, 8_190, 1),
+        (12, 0, 1),
+        (12, 8_189, 2),
+        (13, 0, 2),
+        (12, 8_191, 3),
+        (13, 8_192, 4),
+        (12, 4_093, 5),
+        (12, 4_094, 5),
+        (13, 4_095, 6),
+        (13, 4_094, 6),
+        (12, 4_096, 7),
+        (12, 4_000, 7),
+    ] {
+        blocks.push(block(kind, length, area, area as u8));
+    }
+    blocks
+}
+
+/// A short last block: nothing is dealt behind it.
+fn short(block: &[u8], length: usize) -> Case {
+    let mut lines = shown([block.to_vec()]);
+    lines.extend([deal(&block[..length]), "dev".into(), deal(block), "dev".into()]);
+    lines
+}
+
+fn good(rng: &mut Rng) -> Vec<u8> {
+    let first = match rng.below(5) {
+        0 => rng.pick(&[0, 1, 111, 112, 113, 126, 127, 128, 129, u32::MAX]),
+        _ => rng.below(130) as u32,
+    };
+    let count = if rng.one_in(8) { rng.half() } else { rng.below(18) as u16 };
+    match rng.below(10) {
+        0 => block(1 + rng.below(4) as u8, rng.word(), rng.half(), rng.byte()),
+        1 | 2 => block(5 + rng.below(2) as u8, first, count, rng.byte()),
+        3 => block(7, first, count, rng.byte()),
+        4..=6 => block(8, first, count, rng.byte()),
+        7 => block(9 + rng.below(3) as u8, rng.word(), rng.half(), rng.below(6) as u8),
+        _ => upload(rng),
+    }
+}
+
+/// To few areas, so that they fill.
+fn upload(rng: &mut Rng) -> Vec<u8> {
+    let length = match rng.below(3) {
+        0 => rng.pick(&[0, 1, 4_093, 4_094, 4_095, 4_096, 8_188, 8_189, 8_190, 8_191, 8_192, 8_193]),
+        1 => rng.below(300),
+        _ => rng.below(8_194),
+    };
+    block(12 + rng.below(2) as u8, length as u32, rng.below(11) as u16, rng.byte())
+}
+
+/// One thing wrong, or two.
+fn damaged(rng: &mut Rng) -> Vec<u8> {
+    let mut block = good(rng);
+    for _ in 0..1 + rng.below(2) {
+        match rng.below(4) {
+            0 => block[0] = rng.byte(),
+            1 => block[8 + rng.below(502)] = rng.byte(),
+            2 => block[rng.below(8)] = rng.byte(),
+            _ => {
+                let at = rng.below(512);
+                block[at] ^= 1 << rng.below(8);
+                return block;
+            }
+        }
+    }
+    checked(block)
+}
+
+pub fn random(rng: &mut Rng) -> Case {
+    let mut lines = vec!["dck".to_string()];
+    let until = 20 + rng.below(100);
+    while lines.len() < until {
+        let block = if rng.one_in(6) { damaged(rng) } else { good(rng) };
+        lines.push(deal(&block));
+        if rng.one_in(2) {
+            lines.push("dev".into());
+        }
+    }
+    if rng.one_in(3) {
+        let length = 1 + rng.below(511);
+        lines.push(deal(&good(rng)[..length]));
+    }
+    lines.push("dev".into());
+    lines
+}
