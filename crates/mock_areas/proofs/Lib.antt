@@ -1,5 +1,6 @@
 -- `Search` has the laws of a search through a list, `Room` where a slot lies in its store, `Cases` the outcomes of an append, `Holdings` what callers
--- cite: areas by their numbers, `NewNumber` where a number goes that no slot is held by; `Unique` that answers allowed by one contract are equal, `Wrong` programs that the contracts rule out.
+-- cite: areas by their numbers, `NewNumber` where a number goes that no slot is held by; `Unique` that answers allowed by one contract are equal,
+-- `Wrong` programs that the contracts rule out.
 pub mod Search
 pub mod Room
 pub mod Cases

@@ -1,5 +1,6 @@
 -- The command block as bytes, and bytes as a command block.
-use Prim.Native.Nat.{ℕ, _<_, _^_}
+use Prim.Native.Nat.{ℕ, _<_, _≤_, _^_}
+use mathlib.Core.Path.{_≡_}
 use mathlib.Core.Bool.{not}
 use mathlib.Core.List.{List, [], _∷_, _++_}
 use lib.Dec.{ltb}
@@ -59,3 +60,8 @@ readCommand bytes =
     unless (rule (ltb (length bytes) commandLength) 1 (length bytes ∷ []) ∷ rule (not (same (take 4 bytes) usbc)) 2 (take 4 bytes) ∷ [])
     (andThen (directionOf (getD bytes 12 0)) (λ direction.
     andThen (codeOf (getD bytes 15 0)) (λ code. given (blockOf bytes direction code))))
+
+-- two inputs, of any lengths, that have the same byte at each place that is read: 0 to 20, 22 and 23
+pub record Alike (bytes others : List ℕ) : Type 0 where
+  pub front : (i : ℕ) → i < 21 → getD bytes i 0 ≡ getD others i 0
+  pub count : (i : ℕ) → 22 ≤ i → i < 24 → getD bytes i 0 ≡ getD others i 0

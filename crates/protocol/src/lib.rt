@@ -20,7 +20,7 @@ ghost use mathlib.Core.List.{List};
 ghost use Prim.Native.Nat.{ℕ, _≤_};
 ghost use lib.ListN.{length};
 ghost use Rattle.protocol.specs.Commands.{replyCommand, opcodeCommand, sectorCommand, flashIdCommand, flashInfoCommand, capabilityCommand, chipInfoCommand, storageCommand, eraseLbaCommand, eraseForceCommand, readLbaCommand, writeLbaCommand, resetCommand, switchCommand};
-ghost use Rattle.protocol.specs.CommandBytes.{commandBytes, blockOf, readCommand, writeCommand};
+ghost use Rattle.protocol.specs.CommandBytes.{BlockFits, commandBytes, blockOf, readCommand, writeCommand};
 ghost use Rattle.protocol.specs.CommandMeets.{CommandMeets, commandErrorNumber, commandTold};
 ghost use Rattle.protocol.specs.Code.{parsed};
 ghost use Rattle.promise.specs.Told.{number};
@@ -352,6 +352,7 @@ impl CommandBlock {
     // Fills the first 24 bytes and answers 31: the rest is the caller's.
     pub fn to_bytes(self, out: &mut [u8]) -> Written
         ensures { λ r. ⌜ WriteMeets r (now (out .entry)) (now (out .exit)) (writeCommand self (length (now (out .entry)))) ⌝ }
+        ensures { λ _. ⌜ BlockFits self ⌝ }
     {
         if out.len() < COMMAND_BLOCK_BYTES {
             return Written::TooShort;

@@ -12,7 +12,7 @@ ghost use mathlib.Core.Path.{_≡_};
 ghost use mathlib.Core.List.{List};
 ghost use Prim.Native.Nat.{ℕ, _≤_};
 ghost use lib.ListN.{length};
-ghost use Rattle.protocol_status.specs.StatusBytes.{statusBytes, reportOf, readStatus, writeStatus};
+ghost use Rattle.protocol_status.specs.StatusBytes.{StatusFits, statusBytes, reportOf, readStatus, writeStatus};
 ghost use Rattle.protocol_status.specs.StatusMeets.{StatusMeets, statusErrorTold, statusTold};
 ghost use Rattle.protocol_status.specs.Code.{parsed};
 ghost use Rattle.promise.specs.Told.{number};
@@ -121,6 +121,7 @@ impl CommandStatus {
 
     pub fn to_bytes(self, out: &mut [u8]) -> Written
         ensures { λ r. ⌜ WriteMeets r (now (out .entry)) (now (out .exit)) (writeStatus self (length (now (out .entry)))) ⌝ }
+        ensures { λ _. ⌜ StatusFits self ⌝ }
     {
         if out.len() < COMMAND_STATUS_BYTES {
             return Written::TooShort;

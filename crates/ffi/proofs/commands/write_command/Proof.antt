@@ -12,7 +12,7 @@ use Rattle.ffi.proofs.commands.write_command.Tie as tie
 
 returns : tie.Need-returns
 returns c =
-    let w = c .before .before .before .to-bytes .ensures in
+    let w = c .before .before .before .to-bytes .ensures .0 in
     let k = c .before .before .before .before .before .read-lba .ensures in
     let out = now (c .before .before .before .before .before .before .before .args .out) in (
       c .number .ensures ∙ ap number (w .tells) ∙ ap (λ (x : CommandBlock). number (writeCommand x (length out) .told)) k,

@@ -93,7 +93,7 @@ returns-5 c =
     let status : CommandStatus = record { tag = kind .given .0 .0; residue = 0; status = SUCCESS } in
     let room : length before ≡ statusLength = s .pre ∙ ap replySize (kind .given .1) in
     let sent : writeStatus status (length before) .sent ≡ statusBytes status = rw (le-ltb (length before) statusLength (omega arith)) refl in
-    c .before .before .to-bytes .ensures .leaves
+    c .before .before .to-bytes .ensures .0 .leaves
     ∙ ap (λ (l : List ℕ). front l before) sent
     ∙ ap (λ (k : ReplyKind). front (replyBytes (s .args .config) (s .args .sectors) k) before) (sym (kind .given .1))
 

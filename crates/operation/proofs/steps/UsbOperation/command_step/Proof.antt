@@ -18,7 +18,7 @@ returns : tie.Need-returns
 returns c =
     let a = c .before .before .before .before .before .before .before .before .before .args in
     let w = c .before .before .before .before .before .to-bytes in
-    let no = written-short (a .self .command) (now (a .out)) (w .last .1 .0) (w .result) (c .before .enum-told2 .given .1) (w .ensures) in
+    let no = written-short (a .self .command) (now (a .out)) (w .last .1 .0) (w .result) (c .before .enum-told2 .given .1) (w .ensures .0) in
     rw (command-short (a .self) (length (now (a .out))) (no .0))
     (refused-20 (a .self) (now (a .out)) (w .last .1 .0) (c .answers .result) (c .answers .ensures) (no .1))
 
@@ -30,7 +30,7 @@ wrote : (c : tie.After-enum-told) → (31 ≤ length (now (c .before .before .be
 wrote c =
     let a = c .before .before .before .before .before .before .before .before .args in
     let w = c .before .before .before .before .to-bytes in
-    written-whole (a .self .command) (now (a .out)) (w .last .1 .0) (w .result) _ (c .enum-told .given .1) (w .ensures)
+    written-whole (a .self .command) (now (a .out)) (w .last .1 .0) (w .result) _ (c .enum-told .given .1) (w .ensures .0)
 
 long : (c : tie.After-enum-told) → 31 ≤ length (c .before .before .before .before .to-bytes .last .1 .0)
 long c = omega (arith, wrote c .0, c .before .before .before .before .to-bytes .kept .1 .0)
