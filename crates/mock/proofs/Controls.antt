@@ -1,15 +1,26 @@
 -- Control calls: they keep the session; a refused one changes nothing; areas by their numbers.
 use Prim.Native.Nat.{ℕ}
-use mathlib.Core.Path.{_≡_, refl, ap}
+use mathlib.Core.Path.{_≡_, refl, ap, sym, _∙_}
+use mathlib.Core.Bool.{true}
 use mathlib.Core.List.{List}
+use borrow.Author.Tests.{eq-eqb}
 use lib.ListN.{length}
 use Rattle.promise.specs.Told.{refused}
+use Rattle.promise.specs.Rules.{orRefuse}
 use Rattle.promise.proofs.Outcome.{either-way}
+use Rattle.mock_base.specs.Told.{resultTold, errorValues}
+use Rattle.mock_base.specs.declared.error.MockResult.{MockResult}
+use Rattle.mock_base.specs.declared.error.MockResult.the-variants.{Refused}
+use Rattle.mock_base.specs.declared.error.MockTransportError.the-variants.{NoSlot}
+use Rattle.mock_base.proofs.Unique.{resultFrom, errorFrom, result-from}
+use Rattle.mock_areas.specs.Slots.{slotCount, NotAmong, AllHeld}
 use Rattle.mock_areas.specs.Append.{appendStep}
 use Rattle.mock_areas.specs.Contents.{bytesAt, contents, Sound, gains}
 use Rattle.mock_areas.proofs.Holdings.{append-grows, append-refused}
-use Rattle.mock.specs.Device.{Call, sessionOf, controlRules, writeControl, withAreas, maskromArea}
+use Rattle.mock_areas.proofs.NewNumber.{no-slot-told, no-slot-means}
+use Rattle.mock.specs.Device.{Call, MockMeets, sessionOf, isUpload, controlRules, writeControl, withAreas, maskromArea}
 use Rattle.mock.specs.declared.device.MockState.{MockState}
+use Rattle.mock.specs.declared.device.MockStep.{MockStep}
 
 -- what a control call makes of the record and the store: its own area gains, all else stays
 pub record Controlled (s : MockState) (index : ℕ) (bytes store : List ℕ) (c : Call) : Type 0 where
@@ -48,3 +59,21 @@ pub maskrom-bytes : (s : MockState) (number : ℕ) (store : List ℕ) → length
     → bytesAt (maskromArea s number) store ≡ contents number (s .areas) store
 unfolding contents
 maskrom-bytes s number store e = rw e refl
+
+-- a control call that 65 and 51 let through gives 58 exactly where no slot is held by its index and all eight are held
+module _ (s : MockState) (type request value index : ℕ) (bytes store after : List ℕ) (r : MockStep) (eight : length (s .areas .slots) ≡ slotCount)
+    (stored : length store ≡ s .«store_length») (upload : isUpload type request value ≡ true)
+    (meets : MockMeets r after (writeControl s type request value index bytes store)) where
+  told-as : writeControl s type request value index bytes store .told ≡ appendStep (s .areas) index bytes store .told
+  unfolding writeControl controlRules orRefuse
+  told-as = rw (eq-eqb (length store) (s .«store_length») stored, upload) refl
+
+  pub control-58 : (NotAmong index (s .areas) × AllHeld (s .areas) → r .answer .result ≡ Refused NoSlot)
+      × (r .answer .result ≡ Refused NoSlot → NotAmong index (s .areas) × AllHeld (s .areas))
+  unfolding resultFrom errorFrom resultTold errorValues
+  control-58 = (
+    (λ both. sym (result-from (r .answer .result) (r .answer .signature))
+        ∙ ap resultFrom (meets .tells .tells ∙ told-as ∙ no-slot-told (s .areas) index bytes store eight (both .0) (both .1))),
+    (λ e. no-slot-means (s .areas) index bytes store eight
+        (sym told-as ∙ sym (meets .tells .tells) ∙ ap (λ (x : MockResult). resultTold x (r .answer .signature)) e)),
+  )

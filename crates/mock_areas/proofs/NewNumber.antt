@@ -1,12 +1,13 @@
--- A number that no slot is held by: it takes the lowest free slot, and 58 is given exactly where there is none.
-use Prim.Native.Nat.{ℕ, _+_, _*_, _<_, _≤_}
+-- A number that no slot is held by: it takes the lowest free slot, and 58 is given exactly where there is none. That a record has eight slots (`eight`)
+-- is true of every value of its type.
+use Prim.Native.Nat.{ℕ, _+_, _*_, _≤_}
 use mathlib.Core.Path.{_≡_, refl, ap, sym, _∙_}
-use mathlib.Core.Bool.{Bool, true, false, not}
+use mathlib.Core.Bool.{true, false}
 use mathlib.Core.List.{List, []}
 use native.Mathlib.Omega.{arith}
 use native.Mathlib.Nat.{add-zero, zero-add}
 use lib.Dec.{leb, ltb}
-use lib.ListN.{length, getD, set}
+use lib.ListN.{length, set}
 use lib.Seq.{getD-set-same, getD-set-other}
 use borrow.Author.Tests.{ltb-true, ltb-false, le-ltb, eqb-true, eq-eqb, leb-true, leb-false, not-true, not-false}
 use Rattle.promise.specs.Told.{given, refused}
@@ -21,7 +22,7 @@ use Rattle.mock_areas.specs.declared.Place.{Place}
 use Rattle.mock_areas.specs.declared.AreaAnswer.{AreaAnswer}
 use Rattle.mock_areas.specs.declared.AreaAnswer.the-variants.{Written, NoSlot, SlotFull}
 use Rattle.mock_areas.specs.declared.Wanted.the-variants.{Free, Number}
-use Rattle.mock_areas.proofs.Search.{found-passes, before-fails, not-before, not-behind}
+use Rattle.mock_areas.proofs.Search.{before-fails, not-before, not-behind}
 use Rattle.mock_areas.proofs.Cases.{no-slot, slot-full, appended}
 
 -- what the two tests of a slot say
@@ -79,6 +80,40 @@ module _ (areas : Areas) (number : ℕ) (eight : length (areas .slots) ≡ slotC
       let below = not-before (passes Free) freeSlot (areas .slots) k (omega arith) (λ i l. is-held (slotAt areas i) (here .below i l)) in
       omega arith
 
+-- 58 exactly where the number is not held and all eight slots are, by what an append tells
+module _ (areas : Areas) (number : ℕ) (bytes store : List ℕ) (eight : length (areas .slots) ≡ slotCount) where
+  pub no-slot-told : NotAmong number areas → AllHeld areas → appendStep areas number bytes store .told ≡ refused 58 []
+  no-slot-told new all =
+      let none = not-before (passes Free) freeSlot (areas .slots) slotCount (omega arith) (λ i l. is-held (slotAt areas i) (all i l)) in
+      ap (λ (a : Appending). a .told) (no-slot areas number bytes store _ (sym (new-place areas number eight new)) none)
+
+  placed-nowhere : appendStep areas number bytes store .told ≡ refused 58 [] → slotCount ≤ place number (areas .slots) .slot
+  unfolding appendedAt
+  placed-nowhere told =
+      let p = place number (areas .slots) in
+      let size = slotSize (length store) in
+      on-test (leb slotCount (p .slot)) (λ t. leb-true slotCount (p .slot) t)
+      (λ t. let slot = leb-false slotCount (p .slot) t in
+      on-test (ltb size (p .used + length bytes))
+      (λ f. let full : refused 59 [] ≡ refused 58 [] =
+      sym (ap (λ (a : Appending). a .told) (slot-full areas number bytes store p refl slot (ltb-true size (p .used + length bytes) f))) ∙ told in
+      let z : _≡_ {A = ℕ} 58 59 = cc in absurd (omega arith))
+      (λ f. let done : given tt ≡ refused 58 [] =
+      sym (ap (λ (a : Appending). a .told) (appended areas number bytes store p refl slot (ltb-false size (p .used + length bytes) f))) ∙ told in
+      let z : _≡_ {A = ℕ} 0 1 = cc in absurd (omega arith)))
+
+  pub no-slot-means : appendStep areas number bytes store .told ≡ refused 58 [] → NotAmong number areas × AllHeld areas
+  unfolding place
+  no-slot-means told =
+      let far = placed-nowhere told in
+      on-test (isHeld number (areas .slots))
+      (λ t. let here : slotCount ≤ heldAt number (areas .slots) = rw t at far in
+      let less = ltb-true (heldAt number (areas .slots)) slotCount t in absurd (omega arith))
+      (λ t. let none : slotCount ≤ firstAt (passes Free) (areas .slots) = rw t at far in (
+        not-among areas number eight (ltb-false (heldAt number (areas .slots)) slotCount t),
+        λ i l. held-is (slotAt areas i) (before-fails (passes Free) freeSlot (areas .slots) i (omega arith)),
+      ))
+
 told-58 : (a : AreaAnswer) → areaTold a ≡ refused 58 [] → a ≡ NoSlot
 unfolding areaTold
 told-58 Written e = let z : _≡_ {A = ℕ} 0 1 = cc in absurd (omega arith)
@@ -88,9 +123,6 @@ told-58 SlotFull e = let z : _≡_ {A = ℕ} 58 59 = cc in absurd (omega arith)
 -- a call of `append`
 module _ (areas : Areas) (number : ℕ) (bytes store after : List ℕ) (r : AreaStep) (eight : length (areas .slots) ≡ slotCount)
     (meets : AppendMeets r after (appendStep areas number bytes store)) where
-  not-told : (o : Appending) → appendStep areas number bytes store ≡ o → areaTold (r .answer) ≡ o .told
-  not-told o e = meets .tells ∙ ap (λ (a : Appending). a .told) e
-
   -- a write of a number that no slot is held by, where it is not refused, goes to the lowest free slot, from its start; also with no data
   pub takes-lowest-free : (k : ℕ) → NotAmong number areas → LowestFree k areas → r .answer ≡ Written
       → TakesSlot k number (length bytes) areas (r .areas) × (after ≡ over (k * slotSize (length store)) bytes store)
@@ -121,40 +153,10 @@ module _ (areas : Areas) (number : ℕ) (bytes store after : List ℕ) (r : Area
         meets .leaves ∙ ap (λ (a : Appending). a .leaves) done ∙ ap (λ (at : ℕ). over at bytes store) (add-zero (k * size)),
       ))
 
-  no-slot-given : NotAmong number areas → AllHeld areas → r .answer ≡ NoSlot
-  no-slot-given new all =
-      let none = not-before (passes Free) freeSlot (areas .slots) slotCount (omega arith) (λ i l. is-held (slotAt areas i) (all i l)) in
-      told-58 (r .answer)
-      (meets .tells ∙ ap (λ (a : Appending). a .told) (no-slot areas number bytes store _ (sym (new-place areas number eight new)) none))
-
-  placed-nowhere : r .answer ≡ NoSlot → slotCount ≤ place number (areas .slots) .slot
-  unfolding areaTold appendedAt
-  placed-nowhere refused-by =
-      let p = place number (areas .slots) in
-      let size = slotSize (length store) in
-      let told : refused 58 [] ≡ appendStep areas number bytes store .told = sym (ap areaTold refused-by) ∙ meets .tells in
-      on-test (leb slotCount (p .slot)) (λ t. leb-true slotCount (p .slot) t)
-      (λ t. let slot = leb-false slotCount (p .slot) t in
-      on-test (ltb size (p .used + length bytes))
-      (λ f. let clash : refused 58 [] ≡ refused 59 [] =
-      told ∙ ap (λ (a : Appending). a .told) (slot-full areas number bytes store p refl slot (ltb-true size (p .used + length bytes) f)) in
-      let z : _≡_ {A = ℕ} 58 59 = cc in absurd (omega arith))
-      (λ f. let clash : refused 58 [] ≡ given tt =
-      told ∙ ap (λ (a : Appending). a .told) (appended areas number bytes store p refl slot (ltb-false size (p .used + length bytes) f)) in
-      let z : _≡_ {A = ℕ} 0 1 = cc in absurd (omega arith)))
-
-  no-slot-means : r .answer ≡ NoSlot → NotAmong number areas × AllHeld areas
-  unfolding place
-  no-slot-means refused-by =
-      let far = placed-nowhere refused-by in
-      on-test (isHeld number (areas .slots))
-      (λ t. let here : slotCount ≤ heldAt number (areas .slots) = rw t at far in
-      let less = ltb-true (heldAt number (areas .slots)) slotCount t in absurd (omega arith))
-      (λ t. let none : slotCount ≤ firstAt (passes Free) (areas .slots) = rw t at far in (
-        not-among areas number eight (ltb-false (heldAt number (areas .slots)) slotCount t),
-        λ i l. held-is (slotAt areas i) (before-fails (passes Free) freeSlot (areas .slots) i (omega arith)),
-      ))
-
   -- 58 exactly where the number is not held and all eight slots are
   pub no-slot-exactly : (NotAmong number areas × AllHeld areas → r .answer ≡ NoSlot) × (r .answer ≡ NoSlot → NotAmong number areas × AllHeld areas)
-  no-slot-exactly = ((λ both. no-slot-given (both .0) (both .1)), no-slot-means)
+  unfolding areaTold
+  no-slot-exactly = (
+    (λ both. told-58 (r .answer) (meets .tells ∙ no-slot-told areas number bytes store eight (both .0) (both .1))),
+    (λ e. no-slot-means areas number bytes store eight (sym (meets .tells) ∙ ap areaTold e)),
+  )

@@ -1,18 +1,15 @@
 -- What `to_bytes` wrote `from_bytes` reads; and what reading a command looks at.
 use Prim.Native.Nat.{ℕ, zero, suc, _+_, _<_, _≤_}
 use mathlib.Core.Path.{_≡_, refl, ap, ap₂, sym, _∙_}
-use mathlib.Core.List.{List, [], _∷_, _++_}
+use mathlib.Core.List.{List, _∷_, _++_}
 use native.Mathlib.Omega.{arith}
 use borrow.Author.Tests.{le-ltb}
 use lib.Dec.{lit<}
 use lib.ListN.{length, getD, take, drop, length-drop}
-use Rattle.promise.specs.Told.{Told, given, andThen}
+use Rattle.promise.specs.Told.{given}
 use Rattle.promise.specs.Rules.{orRefuse}
-use Rattle.promise.specs.Bytes.{lowFirst, highFirst, fromLow, fromHigh, field, front}
-use Rattle.protocol_codes.specs.Reading.{directionOf, codeOf}
-use Rattle.protocol_codes.specs.declared.Direction.{Direction}
-use Rattle.protocol_codes.specs.declared.CommandCode.{CommandCode}
-use Rattle.protocol_bytes.specs.Signature.{usbc, same, signatureIn, noSignature}
+use Rattle.promise.specs.Bytes.{lowFirst, highFirst, field}
+use Rattle.protocol_bytes.specs.Signature.{signatureIn, noSignature}
 use Rattle.protocol_bytes.specs.Writing.{writing, WriteMeets}
 use Rattle.protocol_bytes.specs.declared.output.Written.{Written}
 use Rattle.protocol_bytes.proofs.Short.{elements, field-elements}
@@ -21,7 +18,6 @@ use Rattle.protocol.specs.declared.CommandParse.{CommandParse}
 use Rattle.protocol.specs.declared.CommandAnswer.the-variants.{Block}
 use Rattle.protocol.specs.CommandBytes.{commandBytes, blockOf, readCommand, writeCommand, BlockFits, Alike}
 use Rattle.protocol.specs.CommandMeets.{CommandMeets, commandTold}
-use Rattle.protocol.proofs.Reading.{readFields, read-signed}
 use Rattle.protocol.proofs.Trips.{reads-back}
 use Rattle.protocol.proofs.Unique.{command-unique}
 
