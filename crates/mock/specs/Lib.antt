@@ -1,3 +1,5 @@
--- The stand-in device: `Device` has every call over its whole record. `Code` describes private functions of the code.
+-- The stand-in device: `Device` has every call over its whole record, `Made` the records
+-- that calls from a fresh start can make. `Code` describes private functions of the code.
 pub mod Device
+pub mod Made
 pub mod Code

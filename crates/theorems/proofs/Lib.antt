@@ -6,7 +6,8 @@
 -- calls the first of them takes, `DrivenToTheEnd` what they answer. `UploadExamples` has examples P3 to P8 of the rules, `EveryStep` what holds at every
 -- record.
 -- A run of an upload: `UploadTransfers` has its control writes, `UploadSteps` how many steps it takes, `UploadRefusals` which refusals it can meet,
--- `TwoWritesAreOne` that two writes to an area are one, `UploadLands` what the upload leaves, `UploadKeeps` what it keeps.
+-- `TwoWritesAreOne` that two writes to an area are one, `UploadLands` what the upload leaves, `UploadKeeps` what it keeps,
+-- `UploadMakes` that the device's record is one that calls from a fresh start can make.
 -- A run of an operation: `OperationSteps` has how many steps it takes, `SectorsLand` what it leaves of flash and data, `CallsByTurn` that a bulk call
 -- is the table's turn, `CallsThatEnd` which calls end the transaction, `NoTransactionLeft` that none is left after a run, `BetweenRuns` what holds
 -- between one run and the next, `FromStatus`, `FromStart` and `FromData` how a run goes on from there, `OperationEnds` what each operation ends in,
@@ -40,6 +41,7 @@ pub mod UploadRefusals
 pub mod TwoWritesAreOne
 pub mod UploadLands
 pub mod UploadKeeps
+pub mod UploadMakes
 pub mod OperationSteps
 pub mod SectorsLand
 pub mod CallsByTurn

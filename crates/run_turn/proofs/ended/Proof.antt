@@ -1,6 +1,5 @@
 -- The record is made of what it is handed.
 use mathlib.Core.Path.{refl}
-use borrow.Author.Needs.{needs}
 use Rattle.run_turn.proofs.ended.Statement.{statement}
 use Rattle.run_turn.proofs.ended.Tie as tie
 
