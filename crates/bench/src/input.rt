@@ -1,8 +1,13 @@
 // Standard input in chunks of whole blocks, whatever the reads bring.
+use libc::EINTR;
 use libc::STDIN_FILENO;
 ghost use Rattle.io.specs.Counts.{Counts};
 
-pub(crate) const CHUNK: usize = 65536;
+pub(crate) const BLOCK: usize = 512;
+
+pub(crate) const CHUNK: usize = 8192;
+
+const MOST_READS: usize = 1000;
 
 // How many bytes of the chunk were read, and whether the input is over or could not be read on.
 pub(crate) struct Input {
@@ -18,11 +23,26 @@ pub(crate) fn within(n: usize, s: &[u8]) -> usize
     if n < s.len() { n } else { s.len() }
 }
 
+// A read that a signal interrupts is tried again, though not for ever.
+fn read_some(rest: &mut [u8]) -> isize {
+    let mut got = libc::read(STDIN_FILENO, rest);
+    for _ in 1..MOST_READS {
+        if got >= 0 || os::errno() != EINTR {
+            return got;
+        }
+        got = libc::read(STDIN_FILENO, rest);
+    }
+    got
+}
+
 // One read behind the bytes that are there.
 fn read_behind(chunk: &mut [u8], input: Input) -> Input {
     let at = within(input.count, chunk);
     let rest = &mut chunk[at..];
-    let got = libc::read(STDIN_FILENO, rest);
+    let got = read_some(rest);
+    if got < 0 {
+        os::fail(b"bench: the deck could not be read on");
+    }
     if got <= 0 {
         return Input {
             count: at,
@@ -39,7 +59,7 @@ fn read_behind(chunk: &mut [u8], input: Input) -> Input {
 }
 
 // Fills the chunk, up to the end of the input. Every read before that brings a byte at least.
-pub(crate) fn fill(chunk: &mut [u8; 65536]) -> Input {
+pub(crate) fn fill(chunk: &mut [u8; 8192]) -> Input {
     let mut input = Input {
         count: 0,
         is_over: false,
@@ -52,4 +72,12 @@ pub(crate) fn fill(chunk: &mut [u8; 65536]) -> Input {
         input = read_behind(chunk, input);
     }
     input
+}
+
+// All that was read; where a read failed, its whole blocks, since the one behind them need not be the deck's last.
+pub(crate) fn to_deal(input: Input) -> usize {
+    if input.has_failed {
+        return input.count / BLOCK * BLOCK;
+    }
+    input.count
 }

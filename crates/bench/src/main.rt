@@ -1,147 +1,125 @@
 // Deals the deck on standard input to a stand-in head, and prints a line for each block.
 mod input;
-mod line;
 
 use deck::bench::Bench;
-use input::CHUNK;
+use deck_chunk::ChunkAnswer;
+use deck_chunk::Deck;
+use input::Input;
 use input::fill;
+use input::to_deal;
 use input::within;
 use libc::STDERR_FILENO;
 use libc::STDOUT_FILENO;
-use line::LONGEST;
-use line::Line;
-use line::line_of;
 
-const BLOCK: usize = 512;
-
-// Lines wait in a buffer: how many bytes of it, and whether the output takes them.
-struct Output {
-    used: usize,
-    is_open: bool,
-}
-
-struct Progress {
-    bench: Bench,
-    output: Output,
-}
-
-fn flush(out: &[u8], output: Output) -> Output {
-    if !output.is_open {
-        return output;
-    }
-    let used = within(output.used, out);
-    Output {
-        used: 0,
-        is_open: io::write_all(STDOUT_FILENO, &out[..used]),
-    }
-}
-
-// What waits goes out first where the next line might not fit behind it.
-fn with_room(out: &[u8], output: Output) -> Output {
-    if output.used < CHUNK - LONGEST {
-        return output;
-    }
-    flush(out, output)
-}
-
-fn print(line: Line, out: &mut [u8], before: Output) -> Output {
-    let output = with_room(out, before);
-    let at = within(output.used, out);
-    let bytes = line.bytes;
-    let used = within(line.used, &bytes);
-    let rest = &mut out[at..];
-    if rest.len() < used {
-        return output;
-    }
-    bytes::copy(&bytes[..used], rest);
-    Output {
-        used: at + used,
-        is_open: output.is_open,
-    }
-}
-
-fn deal_one(
-    block: &[u8],
-    progress: Progress,
-    out: &mut [u8],
-    flash: &mut [u8],
-    store: &mut [u8],
-) -> Progress {
-    let bench = progress.bench;
-    let step = bench.deal(block, flash, store);
-    let next = step.bench;
-    let verdict = step.verdict;
-    let beside = step.beside;
-    let waiting = progress.output;
-    let output = print(line_of(next.number, verdict, beside), out, waiting);
-    Progress {
-        bench: next,
-        output,
-    }
-}
-
-// The blocks of what was read; the last of the deck may be short.
-fn deal_chunk(
-    blocks: &[u8],
-    before: Progress,
-    out: &mut [u8; 65536],
-    flash: &mut [u8; 65536],
-    store: &mut [u8; 65536],
-) -> Progress {
-    let mut progress = before;
-    for i in 0..CHUNK / BLOCK {
-        let from = i * BLOCK;
-        let end = within(from + BLOCK, blocks);
-        if from < end {
-            progress = deal_one(&blocks[from..end], progress, out, flash, store);
-        }
-    }
-    progress
+// The deck after a chunk, and whether there may be more of it.
+struct Turn {
+    deck: Deck,
+    goes_on: bool,
 }
 
 fn complain(message: &[u8]) {
     io::write_all(STDERR_FILENO, message);
 }
 
-// Chunk after chunk; a proved loop has to end, and no deck has as many.
-fn deal_all(
-    chunk: &mut [u8; 65536],
-    out: &mut [u8; 65536],
-    flash: &mut [u8; 65536],
-    store: &mut [u8; 65536],
-) {
-    let start = Bench::new(flash, store);
-    let bench = start.bench;
-    let output = Output {
-        used: 0,
-        is_open: true,
-    };
-    let mut progress = Progress { bench, output };
-    for _ in 0..u64::MAX {
-        let input = fill(chunk);
-        let blocks: &[u8] = chunk;
-        let count = within(input.count, blocks);
-        progress = deal_chunk(&blocks[..count], progress, out, flash, store);
-        let is_open = progress.output.is_open;
-        if input.has_failed {
-            complain(b"bench: the deck could not be read to its end; deal it again\n");
-        }
-        if input.is_over || !is_open {
-            break;
-        }
+fn say_unread(dealt: u64) {
+    complain(b"bench: blocks that were dealt before that: ");
+    io::print_decimal(STDERR_FILENO, dealt);
+    complain(b"; what was read behind them was not; deal the deck again from its first block\n");
+}
+
+// What went wrong with a chunk, if anything did, and whether there may be another one.
+fn report(input: Input, dealt: u64, is_written: bool) -> bool {
+    if input.has_failed {
+        say_unread(dealt);
     }
-    let waiting = progress.output;
-    if !flush(out, waiting).is_open {
+    if !is_written {
         complain(
             b"bench: not every line could be written; run it again with an output that takes them\n",
         );
     }
+    is_written && !input.is_over
+}
+
+// There is room for the lines of every block of a chunk, so that it is not refused.
+fn deal_and_print(
+    deck: Deck,
+    blocks: &[u8],
+    lines: &mut [u8; 1024],
+    flash: &mut [u8; 65536],
+    store: &mut [u8; 65536],
+) -> Turn {
+    let step = deck.deal_chunk(blocks, lines, flash, store);
+    let next = step.deck;
+    let answer = step.answer;
+    let ChunkAnswer::Dealt(count) = answer else {
+        return Turn {
+            deck: next,
+            goes_on: false,
+        };
+    };
+    let text: &[u8] = lines;
+    let used = within(count.bytes, text);
+    Turn {
+        deck: next,
+        goes_on: io::write_all(STDOUT_FILENO, &text[..used]),
+    }
+}
+
+fn deal_once(
+    deck: Deck,
+    chunk: &mut [u8; 8192],
+    lines: &mut [u8; 1024],
+    flash: &mut [u8; 65536],
+    store: &mut [u8; 65536],
+) -> Turn {
+    let input = fill(chunk);
+    let blocks: &[u8] = chunk;
+    let count = within(to_deal(input), blocks);
+    let turn = deal_and_print(deck, &blocks[..count], lines, flash, store);
+    let next = turn.deck;
+    Turn {
+        deck: next,
+        goes_on: report(input, next.bench.number, turn.goes_on),
+    }
+}
+
+// Chunk after chunk; a proved loop has to end, and no deck has as many.
+fn deal_all(
+    bench: Bench,
+    chunk: &mut [u8; 8192],
+    lines: &mut [u8; 1024],
+    flash: &mut [u8; 65536],
+    store: &mut [u8; 65536],
+) {
+    let mut turn = Turn {
+        deck: Deck {
+            bench,
+            is_over: false,
+        },
+        goes_on: true,
+    };
+    for _ in 0..u64::MAX {
+        turn = deal_once(turn.deck, chunk, lines, flash, store);
+        if !turn.goes_on {
+            return;
+        }
+    }
 }
 
 fn main() {
-    let mut chunk = [0u8; 65536];
-    let mut out = [0u8; 65536];
+    let mut chunk = [0u8; 8192];
+    let mut lines = [0u8; 1024];
     let mut flash = [0u8; 65536];
     let mut store = [0u8; 65536];
-    deal_all(&mut chunk, &mut out, &mut flash, &mut store);
+    let start = Bench::new(&mut flash, &store);
+    let answer = start.answer;
+    let result = answer.result;
+    let bench = start.bench;
+    if result.number() == 0 {
+        deal_all(bench, &mut chunk, &mut lines, &mut flash, &mut store);
+    } else {
+        complain(
+            b"bench: the stand-in refused its flash by 60 or 61: this program has to be mended\n",
+        );
+    }
 }

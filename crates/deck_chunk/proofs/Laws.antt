@@ -249,7 +249,7 @@ module _ (deck : Deck) (chunk flash store buffer : List ℕ) where
   unfolding dealChunk orRefuse chunkTold
   too-short e = rw e (record { tells = refl; leaves = refl; lines = refl })
 
-  fits : ltb (length buffer) (longestLine * begun (length chunk)) ≡ false
+  pub fits : ltb (length buffer) (longestLine * begun (length chunk)) ≡ false
       → dealChunk chunk (table deck flash store) buffer ≡ chunkDealt (dealAll chunk (table deck flash store)) buffer
   unfolding dealChunk orRefuse
   fits e = rw e refl

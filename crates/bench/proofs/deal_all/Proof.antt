@@ -5,10 +5,10 @@ use Rattle.bench.proofs.deal_all.Statement.{statement}
 use Rattle.bench.proofs.deal_all.Tie as tie
 
 abbrev Inv-loop : tie.InvT-loop
-Inv-loop chunk₀ out₀ flash₀ store₀ progress₀ t13 t14 counter₀ chunk out flash store progress counter = Unit {0}
+Inv-loop chunk₀ lines₀ flash₀ store₀ turn₀ counter₀ chunk lines flash store turn counter = Unit {0}
 
 abbrev μ-loop : tie.MeasureT-loop
-μ-loop chunk₀ out₀ flash₀ store₀ progress₀ t13 t14 counter₀ chunk out flash store progress counter = 18446744073709551615 - counter
+μ-loop chunk₀ lines₀ flash₀ store₀ turn₀ counter₀ chunk lines flash store turn counter = 18446744073709551615 - counter
 
 pub deal-all-spec : {M : Type 1} → statement M
 deal-all-spec =
@@ -16,19 +16,10 @@ deal-all-spec =
     (tie.spec
     Inv-loop
     μ-loop
-    (λ c κs. search needs)
-    (λ c. search needs)
-    (λ c κs. search needs)
-    (λ c κs. search needs)
-    (λ c. search needs)
-    (λ c κs. search needs)
     (λ c. search needs)
     (λ c κs. search needs)
     (λ c. search needs)
     (λ c. search needs)
     (λ c. search needs)
-    (λ c κs. search needs)
-    (λ c. search needs)
-    (λ c κs. search needs)
     (λ c. search needs)
     (λ c. search needs))

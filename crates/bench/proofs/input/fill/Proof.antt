@@ -8,7 +8,7 @@ abbrev Inv-loop : tie.InvT-loop
 Inv-loop chunk₀ input₀ counter₀ chunk input counter = Unit {0}
 
 abbrev μ-loop : tie.MeasureT-loop
-μ-loop chunk₀ input₀ counter₀ chunk input counter = 65536 - counter
+μ-loop chunk₀ input₀ counter₀ chunk input counter = 8192 - counter
 
 pub fill-spec : {M : Type 1} → statement M
 fill-spec =
