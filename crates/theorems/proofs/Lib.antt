@@ -15,7 +15,8 @@
 -- A run that ended in 28: `CheckedRuns` has that it and the run that resumes it are one run, if its checks pass again, `OperationResumed` and
 -- `UploadResumed` that they do, for the runs that are called.
 -- A deck: `BenchStart` has the flash that a bench starts with, `BetweenBlocks` what holds between one block and the next, `DeckRefusals` the refusals
--- that the bench can meet, `BlockNumbers` each block's number and tag.
+-- that the bench can meet, `BlockNumbers` each block's number and tag, `AnyChunks` that any chunks give the lines
+-- of the whole, `DeckLines` where the lines end.
 pub mod CutIntoTransfers
 pub mod BehindTheImage
 pub mod StepsToFinish
@@ -61,3 +62,5 @@ pub mod BenchStart
 pub mod BetweenBlocks
 pub mod DeckRefusals
 pub mod BlockNumbers
+pub mod AnyChunks
+pub mod DeckLines
