@@ -12,7 +12,7 @@ use Rattle.mock_effects.specs.Steps.{Step, keeps}
 abbrev pub freshSession : Session
 freshSession = record { «current_command» = state.None; «last_reset» = reset.None }
 
--- 60 and 61 at the start over a lent flash, this order; "a refusal writes no lent buffer and changes no record"
+-- 60 and 61 at the start over a lent flash, this order; "A refusal writes no lent buffer and changes no record"
 unfoldable pub startStepOf : Told ℕ → Session → Step
 startStepOf (refused number values) s = keeps s [] number values
 startStepOf (given sectors) s = record { told = given tt; next = freshSession; leaves = [] }
