@@ -121,13 +121,13 @@ pub(crate) fn hand_over(
     size: usize,
     image: &[u8],
     out: &mut [u8],
-    budget: u32,
+    budget: u64,
 ) -> HandedOver
     ensures { λ r. ⌜ HandsOver r (now (out .exit)) (runs (partTurn size) budget (handing operation (now (image .entry)) (now (out .entry)))) ⌝ }
 {
     let mut now_operation = operation;
     let mut from = 0;
-    let mut used: u32 = 0;
+    let mut used: u64 = 0;
     let length = image.len();
     let number = loop {
         if used == budget {

@@ -54,7 +54,7 @@ pub extern "C" fn otterarch_upload_parts(
     size: usize,
     image: &[u8],
     out: &mut [u8],
-    budget: u32,
+    budget: u64,
 ) -> u8
     ensures { λ r. ⌜ DriveMeets r (now (out .exit)) (partDrive area checked size (now (image .entry)) (now (out .entry)) budget) ⌝ }
 {

@@ -16,7 +16,7 @@ pub fn whole(area: u16, checked: bool, image: &[u8], out: &mut [u8], budget: u32
 }
 
 // A whole upload in parts of `size` bytes, handed over by `budget` calls at most.
-pub fn parts(area: u16, checked: bool, size: usize, image: &[u8], out: &mut [u8], budget: u32) -> u8
+pub fn parts(area: u16, checked: bool, size: usize, image: &[u8], out: &mut [u8], budget: u64) -> u8
     ensures { λ r. ⌜ DriveMeets r (now (out .exit)) (partDrive area checked size (now (image .entry)) (now (out .entry)) budget) ⌝ }
 {
     let over = crate::driving::hand_over(

@@ -1,9 +1,8 @@
--- How many calls an image takes in parts of one size, wherever in its block an upload stands; and that the number fits a u32.
+-- How many calls an image takes in parts of one size, wherever in its block an upload stands; and that the numbers fit their types.
 use Prim.Native.Nat.{ℕ, suc, _+_, _-_, _*_, _/_, _%_, _<_, _≤_, min}
 use mathlib.Core.Path.{_≡_, refl, ap, sym, _∙_}
 use mathlib.Core.Bool.{Bool, true, false}
 use mathlib.Core.List.{[], _∷_}
-use mathlib.Core.Logic.{_⊎_, inl, inr}
 use native.Mathlib.Nat.{div-eq-of-lt, add-div-right, div-one, div-lt-iff-lt-mul, mul-le-mul-left, suc-mul, zero-mul, add-zero}
 use native.Mathlib.Omega.{arith}
 use native.Mathlib.Decide.{decLt}
@@ -117,11 +116,10 @@ few-behind : (n : ℕ) → total n ≤ n + 4
 unfolding total pad lastZero
 few-behind n = few-by n (eqb (n % 4096) 4095) (eqb (n % 4096) 4094)
 
--- the budgets fit a u32: a whole upload's always ..
+-- the budgets fit their types: a whole upload's a u32 ..
 pub whole-steps-fit : (n : ℕ) → n ≤ longest → wholeSteps n < 4294967296
 whole-steps-fit n l = omega (arith, few-behind n)
 
--- .. and that of parts, of two bytes at least or of any but the longest image
 two-each : (size n : ℕ) → 2 ≤ size → n ≤ 4096 → inParts size n < 2049
 two-each size n h l = div-lt-iff-lt-mul {k = size} {x = n + (size - 1)} {y = 2049} (omega arith) .1 (omega arith)
 
@@ -131,17 +129,21 @@ by-bytes n =
     let last : (n % 4096 + 0) / 1 ≡ n % 4096 = div-one (n % 4096 + 0) ∙ add-zero (n % 4096) in
     omega (arith, last)
 
-pub part-budget-fits : (size n : ℕ) → (2 ≤ size) ⊎ ((size ≡ 1) × (n < longest)) → n ≤ longest → partBudget size n < 4294967296
+budget-by : (size n : ℕ) → 1 ≤ size → n ≤ longest → Dec (1 < size) → partBudget size n ≤ 4294967296
 unfolding callsFor
-part-budget-fits size n (inl h) l =
+budget-by size n some l (yes h) =
     let each = two-each size 4096 h (omega arith) in
     let last = two-each size (n % 4096) h (omega arith) in
     let most : n / 4096 * inParts size 4096 ≤ n / 4096 * 2048 = mul-le-mul-left (n / 4096) (omega arith) in
     omega arith
-part-budget-fits size n (inr h) l =
-    let is = by-bytes n in
-    omega (arith, h .1, ap (λ (k : ℕ). callsFor k n) (h .0))
+budget-by size n some l (no h) =
+    let one : size ≡ 1 = omega arith in
+    omega (arith, by-bytes n, ap (λ (k : ℕ). callsFor k n) one)
 
--- the longest image byte by byte would need one more than a u32 holds
+-- .. and that of parts a u64, since it is 2^32 at most ..
+pub part-budget-fits : (size n : ℕ) → 1 ≤ size → n ≤ longest → partBudget size n < 18446744073709551616
+part-budget-fits size n some l = let most = budget-by size n some l (decLt 1 size) in omega arith
+
+-- .. which it is for the longest image byte by byte
 pub longest-by-bytes : partBudget 1 longest ≡ 4294967296
 longest-by-bytes = ap (λ (k : ℕ). k + 1) (by-bytes longest)

@@ -107,7 +107,7 @@ fn upload(image: &Rc<Vec<u8>>, checked: bool, size: Option<usize>) -> Case {
     let most = u32::MAX;
     let whole = move |image: &[u8], out: &mut [u8]| match size {
         None => proved::upload_whole(AREA, checked, image, out, most),
-        Some(size) => proved::upload_parts(AREA, checked, size, image, out, most),
+        Some(size) => proved::upload_parts(AREA, checked, size, image, out, most.into()),
     };
     let mut out = vec![0; BLOCK];
     assert_eq!(whole(image, &mut out), 0);

@@ -23,7 +23,7 @@ unsafe extern "C" {
         length: usize,
         out: *mut u8,
         room: usize,
-        budget: u32,
+        budget: u64,
     ) -> u8;
     fn otterarch_command_write(tag: u32, first: u32, sectors: u32, out: *mut u8, room: usize) -> u8;
     fn otterarch_command_read(bytes: *const u8, length: usize) -> u64;
@@ -47,7 +47,7 @@ pub fn upload_whole(area: u16, checked: bool, image: &[u8], out: &mut [u8], budg
     }
 }
 
-pub fn upload_parts(area: u16, checked: bool, size: usize, image: &[u8], out: &mut [u8], budget: u32) -> u8 {
+pub fn upload_parts(area: u16, checked: bool, size: usize, image: &[u8], out: &mut [u8], budget: u64) -> u8 {
     let (room, out, n) = (out.len(), out.as_mut_ptr(), image.len());
     unsafe { otterarch_upload_parts(area.into(), checked.into(), size, image.as_ptr(), n, out, room, budget) }
 }
