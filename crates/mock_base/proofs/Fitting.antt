@@ -9,7 +9,7 @@ use borrow.Author.Tests.{leb-true, le-leb, eqb-true, not-false, ltb-false}
 use Rattle.promise.specs.Told.{given, refused}
 use Rattle.promise.specs.Rules.{orRefuse, pick}
 use Rattle.protocol_bytes.specs.Sector.{sectorSize}
-use Rattle.mock_base.specs.Flash.{mostFlashSectors, flashRules, flashSectors, fitsIn, rangeIn}
+use Rattle.mock_base.specs.Flash.{mostFlashSectors, flashRules, flashSectors, fitsIn, rangeIn, rangeTold}
 use Rattle.mock_base.specs.declared.range.FlashRange.{FlashRange}
 use Rattle.mock_base.specs.declared.range.RangeAnswer.the-variants.{Within, OutOfRange}
 
@@ -34,24 +34,23 @@ pub fits-bytes : (sectors first count : ℕ) → fitsIn sectors first count ≡ 
 fits-bytes sectors first count h = omega (arith, fits-sectors sectors first count h)
 
 -- what the two answers of a range tell
+by-fit : (t : Bool) (asked range : FlashRange) → pick (not t) (refused 57 []) (given asked) ≡ given range → (t ≡ true) × (range ≡ asked)
+by-fit true asked range e = (refl, cc)
+by-fit false asked range e = let z : _≡_ {A = ℕ} 0 1 = cc in absurd (omega arith)
+
+by-miss : (t : Bool) (asked : FlashRange) → pick (not t) (refused 57 []) (given asked) ≡ refused 57 [] → t ≡ false
+by-miss true asked e = let z : _≡_ {A = ℕ} 0 1 = cc in absurd (omega arith)
+by-miss false asked e = refl
+
 module _ (sectors first count : ℕ) where
-  by-fit : (t : Bool) (range : FlashRange) → pick t (Within (record { first = first; count = count })) OutOfRange ≡ Within range
-      → (t ≡ true) × (range ≡ record { first = first; count = count })
-  by-fit true range e = (refl, cc)
-  by-fit false range e = let z : _≡_ {A = ℕ} 0 1 = cc in absurd (omega arith)
-
-  pub within : (range : FlashRange) → rangeIn sectors first count ≡ Within range
+  pub within : (range : FlashRange) → rangeIn sectors first count ≡ rangeTold (Within range)
       → (fitsIn sectors first count ≡ true) × (range ≡ record { first = first; count = count })
-  unfolding rangeIn
-  within range e = by-fit (fitsIn sectors first count) range e
+  unfolding rangeIn rangeTold orRefuse
+  within range e = by-fit (fitsIn sectors first count) (record { first = first; count = count }) range e
 
-  by-miss : (t : Bool) → pick t (Within (record { first = first; count = count })) OutOfRange ≡ OutOfRange → t ≡ false
-  by-miss true e = let z : _≡_ {A = ℕ} 0 1 = cc in absurd (omega arith)
-  by-miss false e = refl
-
-  pub outside : rangeIn sectors first count ≡ OutOfRange → fitsIn sectors first count ≡ false
-  unfolding rangeIn
-  outside e = by-miss (fitsIn sectors first count) e
+  pub outside : rangeIn sectors first count ≡ rangeTold OutOfRange → fitsIn sectors first count ≡ false
+  unfolding rangeIn rangeTold orRefuse
+  outside e = by-miss (fitsIn sectors first count) (record { first = first; count = count }) e
 
 -- what is given behind two rules was refused by neither
 unrefused : (s t : Bool) (m n : ℕ) (u v : List ℕ) (x y : ℕ) → pick s (refused m u) (pick t (refused n v) (given x)) ≡ given y

@@ -14,10 +14,14 @@ use Rattle.protocol.specs.CommandMeets.{commandErrorNumber, commandErrorValues}
 use Rattle.protocol.specs.declared.CommandBlockParseError.{CommandBlockParseError}
 use Rattle.protocol.specs.declared.CommandBlockParseError.the-variants.{InvalidSignature, UnknownCommandCode, UnknownFlags, InvalidLength}
 use Rattle.protocol_bytes.specs.Signature.{noSignature}
-use Rattle.mock_base.specs.Flash.{sizeTold}
+use Rattle.mock_base.specs.Flash.{sizeTold, rangeTold}
 use Rattle.mock_base.specs.declared.range.FlashSectors.{FlashSectors}
 use Rattle.mock_base.specs.declared.range.FlashSectors.the-variants.{Whole}
 use Rattle.mock_base.specs.declared.range.FlashSectors.the-variants as size
+use Rattle.mock_base.specs.declared.range.FlashRange.{FlashRange}
+use Rattle.mock_base.specs.declared.range.RangeAnswer.{RangeAnswer}
+use Rattle.mock_base.specs.declared.range.RangeAnswer.the-variants.{Within}
+use Rattle.mock_base.specs.declared.range.RangeAnswer.the-variants as fit
 use Rattle.mock_base.specs.Told.{errorNumber, errorValues, resultTold, Answers}
 use Rattle.mock_base.specs.declared.error.MockTransportError.{MockTransportError}
 use Rattle.mock_base.specs.declared.error.MockTransportError.the-variants.{InvalidTransferLength, UnsupportedControl, InvalidReset, UnknownCommand, UnexpectedRead, UnexpectedWrite, CommandBlockError, OutOfRange, NoSlot, SlotFull, FlashSize, TooManySectors, StoreLength}
@@ -95,3 +99,15 @@ size-from (size.Refused error) = ap size.Refused (error-from error noSignature)
 
 pub size-unique : (a b : FlashSectors) (told : Told ℕ) → sizeTold a ≡ told → sizeTold b ≡ told → a ≡ b
 size-unique a b told m n = sym (size-from a) ∙ ap sizeFrom (m ∙ sym n) ∙ size-from b
+
+rangeFrom : Told FlashRange → RangeAnswer
+rangeFrom (given range) = Within range
+rangeFrom (refused number values) = fit.OutOfRange
+
+range-from : (answer : RangeAnswer) → rangeFrom (rangeTold answer) ≡ answer
+unfolding rangeFrom rangeTold
+range-from (Within range) = refl
+range-from fit.OutOfRange = refl
+
+pub range-unique : (a b : RangeAnswer) (told : Told FlashRange) → rangeTold a ≡ told → rangeTold b ≡ told → a ≡ b
+range-unique a b told m n = sym (range-from a) ∙ ap rangeFrom (m ∙ sym n) ∙ range-from b

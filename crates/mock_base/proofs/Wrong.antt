@@ -3,7 +3,7 @@ use Prim.Native.Nat.{ℕ, _≤_}
 use mathlib.Core.Path.{_≡_, ap}
 use mathlib.Core.List.{List}
 use native.Mathlib.Omega.{arith}
-use Rattle.promise.specs.Told.{number, andThen}
+use Rattle.promise.specs.Told.{Told, given, refused, number, andThen}
 use Rattle.promise.specs.Rules.{orRefuse}
 use Rattle.protocol_bytes.specs.Signature.{noSignature}
 use Rattle.mock_base.specs.Told.{errorNumber, resultTold, Answers}
@@ -13,7 +13,6 @@ use Rattle.mock_base.specs.declared.error.MockTransportError.the-variant
 use Rattle.mock_base.specs.declared.error.MockResult.the-variants as result
 use Rattle.mock_base.specs.declared.range.FlashRange.{FlashRange}
 use Rattle.mock_base.specs.declared.range.FlashSectors.the-variants.{Whole, Refused}
-use Rattle.mock_base.specs.declared.range.RangeAnswer.{RangeAnswer}
 use Rattle.mock_base.specs.declared.range.RangeAnswer.the-variants.{Within, OutOfRange}
 
 -- `MockTransportError::number`: one number for a read and a write that were not expected
@@ -82,15 +81,20 @@ unfolding sizeDone sizeTold andThen resultTold
 whole-flash-refused error signature sectors meets = let z : _≡_ {A = ℕ} 0 1 = cc (meets .tells) in omega arith
 
 -- `flash_range`: a range that ends where the flash ends refused (P14)
-pub range-off-by-one : OutOfRange ≡ rangeIn 128 128 0 → ⊥
-unfolding rangeIn fitsIn
+pub range-off-by-one : rangeTold OutOfRange ≡ rangeIn 128 128 0 → ⊥
+unfolding rangeTold rangeIn fitsIn orRefuse
 range-off-by-one e = let z : _≡_ {A = ℕ} 0 1 = cc in omega arith
 
-firstOf : RangeAnswer → ℕ
-firstOf (Within range) = range .first
-firstOf OutOfRange = 0
+-- one that ends a sector beyond it taken, whatever range is told for it (P14)
+pub range-past-the-end : (range : FlashRange) → rangeTold (Within range) ≡ rangeIn 128 128 1 → ⊥
+unfolding rangeTold rangeIn fitsIn orRefuse
+range-past-the-end range e = let z : _≡_ {A = ℕ} 0 1 = cc in omega arith
+
+firstOf : Told FlashRange → ℕ
+firstOf (given range) = range .first
+firstOf (refused number values) = 0
 
 -- a range from elsewhere, whatever its count
-pub range-from-elsewhere : (count : ℕ) → Within (record { first = 0; count = count }) ≡ rangeIn 128 64 1 → ⊥
-unfolding rangeIn fitsIn firstOf
+pub range-from-elsewhere : (count : ℕ) → rangeTold (Within (record { first = 0; count = count })) ≡ rangeIn 128 64 1 → ⊥
+unfolding rangeTold rangeIn fitsIn orRefuse firstOf
 range-from-elsewhere count e = let differ : _≡_ {A = ℕ} 0 64 = ap firstOf e in omega arith

@@ -4,7 +4,7 @@ use mathlib.Core.Bool.{Bool, not}
 use mathlib.Core.List.{List, [], _∷_}
 use lib.Dec.{eqb, leb, ltb}
 use Rattle.promise.specs.Told.{Told, given, refused, andThen}
-use Rattle.promise.specs.Rules.{Rule, rule, pick, unless}
+use Rattle.promise.specs.Rules.{Rule, rule, unless}
 use Rattle.protocol_bytes.specs.Sector.{sectorSize}
 use Rattle.mock_base.specs.Told.{errorTold}
 use Rattle.protocol_bytes.specs.Signature.{noSignature}
@@ -37,10 +37,13 @@ sizeDone size = andThen (sizeTold size) (λ sectors. given tt)
 unfoldable pub fitsIn : ℕ → ℕ → ℕ → Bool
 fitsIn sectors first count = leb (first + count) sectors
 
-unfoldable pub rangeIn : ℕ → ℕ → ℕ → RangeAnswer
-rangeIn sectors first count = pick (fitsIn sectors first count) (Within (record { first = first; count = count })) OutOfRange
-
 -- 57: OutOfRange
+abbrev pub fitRule : ℕ → ℕ → ℕ → Rule
+fitRule sectors first count = rule (not (fitsIn sectors first count)) 57 []
+
+unfoldable pub rangeIn : ℕ → ℕ → ℕ → Told FlashRange
+rangeIn sectors first count = unless (fitRule sectors first count ∷ []) (given (record { first = first; count = count }))
+
 unfoldable pub rangeTold : RangeAnswer → Told FlashRange
 rangeTold (Within range) = given range
 rangeTold OutOfRange = refused 57 []

@@ -81,7 +81,7 @@ pub fn size_answer(size: FlashSectors) -> MockAnswer
 }
 
 pub fn flash_range(sectors: usize, start_sector: u32, count: u16) -> RangeAnswer
-    ensures { λ r. ⌜ r ≡ rangeIn sectors «start_sector» count ⌝ }
+    ensures { λ r. ⌜ rangeTold r ≡ rangeIn sectors «start_sector» count ⌝ }
 {
     if sectors < (start_sector as usize) + (count as usize) {
         return RangeAnswer::OutOfRange;

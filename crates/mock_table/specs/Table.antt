@@ -15,7 +15,7 @@ use Rattle.protocol_codes.specs.declared.CommandCode.the-variants.{ReadFlashId,
 use Rattle.protocol_bytes.specs.Sector.{sectorSize}
 use Rattle.protocol.specs.CommandBytes.{readCommand}
 use Rattle.protocol.specs.declared.CommandBlock.{CommandBlock}
-use Rattle.mock_base.specs.Flash.{fitsIn}
+use Rattle.mock_base.specs.Flash.{fitRule}
 use Rattle.mock_base.specs.declared.range.FlashRange.{FlashRange}
 use Rattle.mock_table.specs.Turn.{Turn, refuses, done, hasCode, isErase, isIn, isOut, movedBy, replySize}
 use Rattle.mock_table.specs.declared.session.CommandState.{CommandState}
@@ -33,7 +33,7 @@ rangeOf c = record { first = c .«cd_address»; count = c .«cd_length» }
 
 -- 57: the range is not within the flash's sectors
 abbrev pub rangeRule : CommandBlock → ℕ → Rule
-rangeRule c sectors = rule (not (fitsIn sectors (c .«cd_address») (c .«cd_length»))) 57 []
+rangeRule c sectors = fitRule sectors (c .«cd_address») (c .«cd_length»)
 
 -- 50: (expected, actual)
 abbrev pub lengthRule : ℕ → ℕ → Rule

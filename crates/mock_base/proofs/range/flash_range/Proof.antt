@@ -2,18 +2,19 @@
 use Prim.Native.Nat.{_+_}
 use borrow.Author.Needs.{needs}
 use borrow.Author.Tests.{lt-leb, le-leb}
-use Rattle.mock_base.specs.Flash.{fitsIn, rangeIn}
+use Rattle.promise.specs.Rules.{orRefuse}
+use Rattle.mock_base.specs.Flash.{fitsIn, rangeIn, rangeTold}
 use Rattle.mock_base.proofs.range.flash_range.Statement.{statement}
 use Rattle.mock_base.proofs.range.flash_range.Tie as tie
 
 returns : tie.Need-returns
-unfolding rangeIn fitsIn
+unfolding rangeTold rangeIn fitsIn orRefuse
 returns c =
     let a = c .before .args in
     rw (lt-leb (a .start-sector + a .count) (a .sectors) (c .if1 .taken))
 
 returns-2 : tie.Need-returns-2
-unfolding rangeIn fitsIn
+unfolding rangeTold rangeIn fitsIn orRefuse
 returns-2 c =
     let a = c .before .args in
     rw (le-leb (a .start-sector + a .count) (a .sectors) (c .if1 .left))

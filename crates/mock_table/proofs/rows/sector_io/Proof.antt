@@ -7,6 +7,7 @@ use borrow.Author.Tests.{eq-eqb, ne-eqb}
 use Rattle.protocol_bytes.specs.Sector.{sectorSize}
 use Rattle.promise.specs.Rules.{orRefuse}
 use Rattle.mock_base.specs.Told.{errorValues}
+use Rattle.mock_base.specs.Flash.{rangeTold}
 use Rattle.mock_base.specs.declared.error.MockTransportError.the-variants.{OutOfRange, InvalidTransferLength}
 use Rattle.mock_base.proofs.Fitting.{within, outside}
 use Rattle.mock_table.specs.Turn.{movedBy}
@@ -21,7 +22,7 @@ unfolding sectorTurn orRefuse errorValues
 returns c =
     let a = c .before .before .before .before .args in
     let far = outside (a .sectors) (a .command .«cd_address») (a .command .«cd_length»)
-    (sym (c .before .before .before .flash-range .ensures) ∙ c .before .enum-told .given .1) in
+    (sym (c .before .before .before .flash-range .ensures) ∙ ap rangeTold (c .before .enum-told .given .1)) in
     refused-as (a .reset) OutOfRange 57 [] refl (c .refuse .ensures) (rw far refl)
 
 returns-2 : tie.Need-returns-2
@@ -31,7 +32,7 @@ returns-2 c =
     let a = s .before .before .before .args in
     let expected = a .command .«cd_length» * sectorSize in
     let fit = within (a .sectors) (a .command .«cd_address») (a .command .«cd_length») (s .range .given .0 .0)
-    (sym (s .before .before .flash-range .ensures) ∙ s .range .given .1) in
+    (sym (s .before .before .flash-range .ensures) ∙ ap rangeTold (s .range .given .1)) in
     refused-as (a .reset) (InvalidTransferLength expected (a .actual)) 50 (expected ∷ a .actual ∷ []) refl (c .refuse2 .ensures)
     (rw (fit .0, ne-eqb (a .actual) expected (c .before .if1 .taken)) refl)
 
@@ -42,7 +43,7 @@ returns-3 c =
     let a = s .before .before .before .args in
     let expected = a .command .«cd_length» * sectorSize in
     let fit = within (a .sectors) (a .command .«cd_address») (a .command .«cd_length») (s .range .given .0 .0)
-    (sym (s .before .before .flash-range .ensures) ∙ s .range .given .1) in
+    (sym (s .before .before .flash-range .ensures) ∙ ap rangeTold (s .range .given .1)) in
     let moved : c .before .moved-by .result ≡ movedBy (a .direction) (rangeOf (a .command)) =
     c .before .moved-by .ensures ∙ ap (movedBy (a .direction)) (fit .1) in
     done-as (Status (a .command)) (a .reset) (movedBy (a .direction) (rangeOf (a .command)))

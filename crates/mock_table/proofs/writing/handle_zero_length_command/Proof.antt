@@ -5,6 +5,7 @@ use borrow.Author.Needs.{needs}
 use Rattle.protocol_codes.specs.Numbers.{codeNumber}
 use Rattle.promise.specs.Rules.{orRefuse}
 use Rattle.mock_base.specs.Told.{errorValues}
+use Rattle.mock_base.specs.Flash.{rangeTold}
 use Rattle.mock_base.specs.declared.error.MockTransportError.the-variants.{OutOfRange, UnknownCommand}
 use Rattle.mock_base.specs.declared.range.FlashRange.{FlashRange}
 use Rattle.mock_base.proofs.Fitting.{within, outside}
@@ -23,7 +24,7 @@ returns c =
     let a = s .before .before .before .args in
     let erases = sym (s .before .before .is-erase .ensures) ∙ s .before .if1 .taken in
     let far = outside (a .sectors) (a .command .«cd_address») (a .command .«cd_length»)
-    (sym (s .flash-range .ensures) ∙ c .before .enum-told .given .1) in
+    (sym (s .flash-range .ensures) ∙ ap rangeTold (c .before .enum-told .given .1)) in
     refused-as (a .reset) OutOfRange 57 [] refl (c .refuse .ensures) (rw (erases, far) refl)
 
 returns-2 : tie.Need-returns-2
@@ -33,7 +34,7 @@ returns-2 c =
     let a = s .before .before .before .before .before .args in
     let erases = sym (s .before .before .before .before .is-erase .ensures) ∙ s .before .before .before .if1 .taken in
     let fit = within (a .sectors) (a .command .«cd_address») (a .command .«cd_length») (s .range .given .0 .0)
-    (sym (s .before .before .flash-range .ensures) ∙ s .range .given .1) in
+    (sym (s .before .before .flash-range .ensures) ∙ ap rangeTold (s .range .given .1)) in
     done-as (Status (a .command)) (a .reset) (Fill (rangeOf (a .command)))
     (c .settle .ensures ∙ ap (λ (x : FlashRange). settled (Status (a .command)) (a .reset) (Fill x)) (fit .1))
     (rw (erases, fit .0) refl)
