@@ -9,10 +9,10 @@ use lib.ListN.{length, getD, replicate, length-set, getD-replicate, List·getD-e
 use lib.Seq.{getD-set-same, getD-set-other}
 use borrow.Author.Tests.{ltb-true, ltb-false, eqb-true, eqb-false, eq-eqb, leb-false, not-false}
 use Rattle.promise.proofs.Outcome.{by-test, on-test, either-way}
-use Rattle.mock_areas.specs.Slots.{slotCount, slotSize, freeSlot, freshAreas, passes, firstAt, heldAt, isHeld, place}
+use Rattle.mock_areas.specs.Slots.{slotCount, slotSize, freeSlot, freshAreas, passes, firstAt, heldAt, isHeld, place, slotAt}
 use Rattle.mock_areas.specs.Append.{heldBy, appendRules, refusedAppend, Appending, appendedAt, appendStep, AppendMeets}
 use Rattle.mock_areas.specs.Contents.{Sound}
-use Rattle.mock_areas.specs.Reached.{slotAt, Filled}
+use Rattle.mock_areas.specs.Reached.{Filled}
 use Rattle.mock_areas.specs.declared.Area.{Area}
 use Rattle.mock_areas.specs.declared.Areas.{Areas}
 use Rattle.mock_areas.specs.declared.AreaStep.{AreaStep}

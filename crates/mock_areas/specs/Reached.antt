@@ -2,14 +2,9 @@
 use Prim.Native.Nat.{ℕ, _≤_, _<_}
 use mathlib.Core.Path.{_≡_}
 use mathlib.Core.Bool.{true, false}
-use lib.ListN.{length, getD}
-use Rattle.mock_areas.specs.Slots.{slotCount, slotSize, freeSlot}
-use Rattle.mock_areas.specs.declared.Area.{Area}
+use lib.ListN.{length}
+use Rattle.mock_areas.specs.Slots.{slotCount, slotSize, freeSlot, slotAt}
 use Rattle.mock_areas.specs.declared.Areas.{Areas}
-
--- the slot at that place; a free one where there is none
-abbrev pub slotAt : Areas → ℕ → Area
-slotAt areas at = getD (areas .slots) at freeSlot
 
 -- what the slots are after writes from a fresh start to a store of n bytes: there are eight; a held one uses its size at most; the held ones are the
 -- lowest; no two are held by one number; a free one is as at first

@@ -28,7 +28,7 @@ freeSlot = record { held = false; number = 0; used = 0 }
 unfoldable pub freshAreas : Areas
 freshAreas = record { slots = replicate slotCount freeSlot }
 
--- slot i of a record
+-- slot i of a record; a free one where there is none
 abbrev pub slotAt : Areas → ℕ → Area
 slotAt areas i = getD (areas .slots) i freeSlot
 
