@@ -31,7 +31,7 @@ use Rattle.theorems.proofs.AnyCut.{started, whole-start}
 use Rattle.theorems.proofs.OneCall.{not-both, refused-stays, asks-finish, same-given, writes-finish}
 
 module _ (image : List ℕ) where
-  abbrev step : WholeUpload → ℕ → Told (Does Asks WholeUpload)
+  abbrev pub step : WholeUpload → ℕ → Told (Does Asks WholeUpload)
   step u room = wholeStep u image room
 
   module _ (u : WholeUpload) (before now : List ℕ) (r : WholeStepped) (meets : StepMeets r u image before now) where
@@ -73,7 +73,7 @@ module _ (image : List ℕ) where
         l ∙ sym (ap (λ (x : WholeUpload). x .length) (meets .next ∙ ap (after u) (whole-goes image u (u .steps) w c to l refl refl refl refl (length before) (whole-long a g))))
 
   -- a step that is not refused takes the first transfer of those that are due
-  whole-takes : (u : WholeUpload) (us : List Transfer) (before now : List ℕ) (r : WholeStepped) (a : Asks) → Sends step u us → length image ≡ u .length
+  pub whole-takes : (u : WholeUpload) (us : List Transfer) (before now : List ℕ) (r : WholeStepped) (a : Asks) → Sends step u us → length image ≡ u .length
       → StepMeets r u image before now → stepTold (r .step) ≡ given a → (later : List Transfer) × (us ≡ askedSeen a now ++ later) × Sends step (r .next) later
   unfolding askedSeen said sent after
   whole-takes u us before now r a (finishes u₁ u₂ e) l meets g =
@@ -91,7 +91,7 @@ module _ (image : List ℕ) where
         subst (λ (x : WholeUpload). Sends step x ts) (sym next-is) s,
       )
 
-  whole-takes-none : (u : WholeUpload) (us : List Transfer) (before now : List ℕ) (r : WholeStepped) → Sends step u us → StepMeets r u image before now
+  pub whole-takes-none : (u : WholeUpload) (us : List Transfer) (before now : List ℕ) (r : WholeStepped) → Sends step u us → StepMeets r u image before now
       → stepTold (r .step) ≡ given finish → us ≡ []
   unfolding said
   whole-takes-none u us before now r (finishes u₁ u₂ e) meets g = refl
@@ -100,11 +100,11 @@ module _ (image : List ℕ) where
       absurd (writes-finish (control area (length bs)) (sym (ap said stepped) ∙ sym (meets .tells) ∙ g))
 
   -- what is still to be sent, and that it and the transfers seen are those of the image
-  record Sending (area : ℕ) (checked : Bool) (u : WholeUpload) (ts : List Transfer) : Type 0 where
-    later : List Transfer
-    due : Sends step u later
-    total : ts ++ later ≡ transfersOf area checked image
-    long : length image ≡ u .length
+  pub record Sending (area : ℕ) (checked : Bool) (u : WholeUpload) (ts : List Transfer) : Type 0 where
+    pub later : List Transfer
+    pub due : Sends step u later
+    pub total : ts ++ later ≡ transfersOf area checked image
+    pub long : length image ≡ u .length
 
   module _ (area : ℕ) (checked : Bool) where
     pub too-long : longest < length image → said (startStep area checked image) ≡ refused tooLong []
@@ -119,7 +119,7 @@ module _ (image : List ℕ) where
     pub started-fits : (r : WholeStart) → StartMeets r area checked image → startTold (r .start) ≡ given tt → length image ≤ longest
     started-fits r m g = start-by r m g (decLt longest (length image))
 
-    sending-so : (u : WholeUpload) (ts : List Transfer) → Stepped area checked image u ts → Sending area checked u ts
+    pub sending-so : (u : WholeUpload) (ts : List Transfer) → Stepped area checked image u ts → Sending area checked u ts
     unfolding after
     sending-so _ _ (begun r m g) =
         let is : r .upload ≡ freshWhole area checked (length image) = m .next ∙ ap (after (freshWhole area checked 0)) (started area checked image (started-fits r m g)) in

@@ -1,7 +1,8 @@
 -- An image handed over to its end: `CutIntoTransfers` has how its bytes are cut, `BehindTheImage` what follows it, `StepsToFinish` how a record is
 -- stepped to its finish, `ClosingSends`, `WholeSends` and `PartsSend` what a record has still to send, `AnyCut` that any cut gives the same
 -- transfers, `OneCall` what one call takes of what is to be sent, `AnyCaller` that any caller sees the transfers of what was taken, `ImageInOrder` that
--- who hands over an image in order sees the image's, `AnyWholeCaller` the same of the whole upload, `CallsAnswered` that a caller can go on.
+-- who hands over an image in order sees the image's, `AnyWholeCaller` the same of the whole upload, `CallsAnswered` that a caller can go on,
+-- `ComesToTheFinish` by how many calls he comes to the finish.
 -- Three of these callers: `ListsOfParts` has the driver, `PartsOfOneSize` and `LinkedWhole` the two uploads that C and Rust link, `CallsForParts` how many
 -- calls the first of them takes, `DrivenToTheEnd` what they answer. `UploadExamples` has examples P3 to P8 of the rules, `EveryStep` what holds at every
 -- record.
@@ -29,6 +30,7 @@ pub mod AnyCaller
 pub mod ImageInOrder
 pub mod AnyWholeCaller
 pub mod CallsAnswered
+pub mod ComesToTheFinish
 pub mod ListsOfParts
 pub mod PartsOfOneSize
 pub mod LinkedWhole

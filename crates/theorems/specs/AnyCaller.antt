@@ -1,11 +1,14 @@
 -- Any caller of an upload, over what its functions promise. He sees answers and output alone, lends any output at each call, and does with it what he
 -- likes between two calls.
-use Prim.Native.Nat.{ℕ, zero, suc, _+_}
+use Prim.Native.Nat.{ℕ, zero, suc, _+_, _<_, _≤_}
 use mathlib.Core.Path.{_≡_}
 use mathlib.Core.Bool.{Bool}
 use mathlib.Core.List.{List, [], _∷_, _++_}
-use lib.ListN.{take, drop}
+use mathlib.Core.Logic.{_⊎_}
+use lib.ListN.{length, take, drop}
 use Rattle.promise.specs.Told.{given, refused}
+use Rattle.maskrom_transfer.specs.Moves.{blockSize}
+use Rattle.maskrom.specs.declared.Control.{Control}
 use Rattle.maskrom.specs.declared.MaskRomOperation.{MaskRomOperation}
 use Rattle.maskrom.specs.declared.PartStepped.{PartStepped}
 use Rattle.maskrom.specs.declared.CloseStepped.{CloseStepped}
@@ -101,6 +104,26 @@ pub data Finishes (area : ℕ) (checked : Bool) (image : List ℕ) : List Transf
   finishes : (m : MaskRomOperation) (left : List ℕ) (ts : List Transfer) (before now : List ℕ) (r : CloseStepped)
       → Reached area checked image m left ts → CloseMeets r m before now → stepTold (r .step) ≡ given finish → Finishes area checked image ts
 
+-- what comes of it if he lends 4,096 bytes of output or more at each call
+
+-- whatever closing steps he makes from here, having seen `ts`: none is refused, the last of so many at the latest is answered the finish, and then he has
+-- seen `all`
+unfoldable pub ClosesBy : ℕ → List Transfer → MaskRomOperation → List Transfer → Type 0
+ClosesBy zero all m ts = ⊥
+ClosesBy (suc steps) all m ts =
+    (before now : List ℕ) (r : CloseStepped) → blockSize ≤ length before → CloseMeets r m before now
+    → ((stepTold (r .step) ≡ given finish) × (ts ≡ all))
+    ⊎ ((c : Control) × (stepTold (r .step) ≡ given (writes c)) × ClosesBy steps all (r .next) (ts ++ (seen c now ∷ [])))
+
+-- whatever slices he hands over from here, each of a byte at least and beginning what is left: none is refused, each call takes a byte at least, nothing is
+-- left after so many of them at the latest, and once nothing is left he comes to the finish by three closing steps at most
+unfoldable pub ComesBy : ℕ → List Transfer → MaskRomOperation → List ℕ → List Transfer → Type 0
+ComesBy zero all m left ts = (left ≡ []) × ClosesBy 3 all m ts
+ComesBy (suc calls) all m left ts =
+    (left ≡ [] → ClosesBy 3 all m ts)
+    × ((part rest before now : List ℕ) (r : PartStepped) → left ≡ part ++ rest → 0 < length part → blockSize ≤ length before → PartMeets r m part before now
+    → (a : Handed) × (partTold (r .step) ≡ given a) × (0 < takenBy a) × ComesBy calls all (r .next) (drop (takenBy a) left) (ts ++ handedSeen a now))
+
 -- any caller of a whole upload, who lends its image at every step
 
 -- where his calls can bring him: to a record, with these transfers seen. A step that is refused may have been lent anything.
@@ -117,3 +140,9 @@ pub data Stepped (area : ℕ) (checked : Bool) (image : List ℕ) : WholeUpload 
 pub data WholeFinishes (area : ℕ) (checked : Bool) (image : List ℕ) : List Transfer → Type 0 where
   whole-finishes : (u : WholeUpload) (ts : List Transfer) (before now : List ℕ) (r : WholeStepped)
       → Stepped area checked image u ts → StepMeets r u image before now → stepTold (r .step) ≡ given finish → WholeFinishes area checked image ts
+
+-- how many of his steps were not refused
+unfoldable pub stepsMade : {area : ℕ} {checked : Bool} {image : List ℕ} (u : WholeUpload) (ts : List Transfer) → Stepped area checked image u ts → ℕ
+stepsMade _ _ (begun r m g) = 0
+stepsMade _ _ (stepping u ts before now r a d p g) = stepsMade u ts d + 1
+stepsMade _ _ (no-step u ts other before now r n vs d p g) = stepsMade u ts d
