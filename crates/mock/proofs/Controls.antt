@@ -1,5 +1,5 @@
 -- Control calls: they keep the session; a refused one changes nothing; areas by their numbers.
-use Prim.Native.Nat.{ℕ}
+use Prim.Native.Nat.{ℕ, _*_, _≤_}
 use mathlib.Core.Path.{_≡_, refl, ap, sym, _∙_}
 use mathlib.Core.Bool.{true}
 use mathlib.Core.List.{List}
@@ -7,17 +7,20 @@ use borrow.Author.Tests.{eq-eqb}
 use lib.ListN.{length}
 use Rattle.promise.specs.Told.{refused}
 use Rattle.promise.specs.Rules.{orRefuse}
+use Rattle.promise.specs.Over.{over}
 use Rattle.promise.proofs.Outcome.{either-way}
 use Rattle.mock_base.specs.Told.{resultTold, errorValues}
 use Rattle.mock_base.specs.declared.error.MockResult.{MockResult}
-use Rattle.mock_base.specs.declared.error.MockResult.the-variants.{Refused}
+use Rattle.mock_base.specs.declared.error.MockResult.the-variants.{Done, Refused}
 use Rattle.mock_base.specs.declared.error.MockTransportError.the-variants.{NoSlot}
 use Rattle.mock_base.proofs.Unique.{resultFrom, errorFrom, result-from}
-use Rattle.mock_areas.specs.Slots.{slotCount, NotAmong, AllHeld}
-use Rattle.mock_areas.specs.Append.{appendStep}
+use Rattle.mock_areas.specs.Slots.{slotCount, slotSize, NotAmong, AllHeld, LowestFree}
+use Rattle.mock_areas.specs.Append.{appendStep, areaTold, AppendMeets, TakesSlot}
 use Rattle.mock_areas.specs.Contents.{bytesAt, contents, Sound, gains}
 use Rattle.mock_areas.proofs.Holdings.{append-grows, append-refused}
-use Rattle.mock_areas.proofs.NewNumber.{no-slot-told, no-slot-means}
+use Rattle.mock_areas.specs.declared.AreaStep.{AreaStep}
+use Rattle.mock_areas.specs.declared.AreaAnswer.the-variants.{Written}
+use Rattle.mock_areas.proofs.NewNumber.{no-slot-told, no-slot-means, new-number-told, takes-lowest-free}
 use Rattle.mock.specs.Device.{Call, MockMeets, sessionOf, isUpload, controlRules, writeControl, withAreas, maskromArea}
 use Rattle.mock.specs.declared.device.MockState.{MockState}
 use Rattle.mock.specs.declared.device.MockStep.{MockStep}
@@ -64,9 +67,17 @@ maskrom-bytes s number store e = rw e refl
 module _ (s : MockState) (type request value index : ℕ) (bytes store after : List ℕ) (r : MockStep) (eight : length (s .areas .slots) ≡ slotCount)
     (stored : length store ≡ s .«store_length») (upload : isUpload type request value ≡ true)
     (meets : MockMeets r after (writeControl s type request value index bytes store)) where
-  told-as : writeControl s type request value index bytes store .told ≡ appendStep (s .areas) index bytes store .told
+  appends : writeControl s type request value index bytes store
+      ≡ record {
+        told = appendStep (s .areas) index bytes store .told;
+        next = withAreas s (appendStep (s .areas) index bytes store .next);
+        leaves = appendStep (s .areas) index bytes store .leaves;
+      }
   unfolding writeControl controlRules orRefuse
-  told-as = rw (eq-eqb (length store) (s .«store_length») stored, upload) refl
+  appends = rw (eq-eqb (length store) (s .«store_length») stored, upload) refl
+
+  told-as : writeControl s type request value index bytes store .told ≡ appendStep (s .areas) index bytes store .told
+  told-as = ap (λ (c : Call). c .told) appends
 
   pub control-58 : (NotAmong index (s .areas) × AllHeld (s .areas) → r .answer .result ≡ Refused NoSlot)
       × (r .answer .result ≡ Refused NoSlot → NotAmong index (s .areas) × AllHeld (s .areas))
@@ -77,3 +88,22 @@ module _ (s : MockState) (type request value index : ℕ) (bytes store after : L
     (λ e. no-slot-means (s .areas) index bytes store eight
         (sym told-as ∙ sym (meets .tells .tells) ∙ ap (λ (x : MockResult). resultTold x (r .answer .signature)) e)),
   )
+
+  -- and a new index is not refused, where a slot is free and the bytes fit its size, as no data always does: it takes the lowest free slot
+  pub control-new-number : (k : ℕ) → NotAmong index (s .areas) → LowestFree k (s .areas) → length bytes ≤ slotSize (length store)
+      → (r .answer .result ≡ Done) × TakesSlot k index (length bytes) (s .areas) (r .state .areas) × (after ≡ over (k * slotSize (length store)) bytes store)
+  unfolding resultFrom areaTold
+  control-new-number k new here fits =
+      let done = new-number-told (s .areas) index bytes store eight k new here fits in
+      let step : AreaStep = record { answer = Written; areas = r .state .areas } in
+      let like : AppendMeets step after (appendStep (s .areas) index bytes store) =
+      record {
+        tells = sym done;
+        next = ap (λ (x : MockState). x .areas) (meets .next) ∙ ap (λ (c : Call). c .next .areas) appends;
+        leaves = meets .leaves ∙ ap (λ (c : Call). c .leaves) appends;
+      } in
+      let takes = takes-lowest-free (s .areas) index bytes store after step eight like k new here refl in (
+        sym (result-from (r .answer .result) (r .answer .signature)) ∙ ap resultFrom (meets .tells .tells ∙ told-as ∙ done),
+        takes .0,
+        takes .1,
+      )

@@ -1,7 +1,7 @@
 -- A number that no slot is held by: it takes the lowest free slot, and 58 is given exactly where there is none. That a record has eight slots (`eight`)
 -- is true of every value of its type.
 use Prim.Native.Nat.{ℕ, _+_, _*_, _≤_}
-use mathlib.Core.Path.{_≡_, refl, ap, sym, _∙_}
+use mathlib.Core.Path.{_≡_, refl, ap, sym, _∙_, subst}
 use mathlib.Core.Bool.{true, false}
 use mathlib.Core.List.{List, []}
 use native.Mathlib.Omega.{arith}
@@ -13,6 +13,7 @@ use borrow.Author.Tests.{ltb-true, ltb-false, le-ltb, eqb-true, eq-eqb, leb-true
 use Rattle.promise.specs.Told.{given, refused}
 use Rattle.promise.specs.Over.{over}
 use Rattle.promise.proofs.Outcome.{on-test}
+use Rattle.promise.proofs.Over.{over-nothing}
 use Rattle.mock_areas.specs.Slots.{slotCount, slotSize, freeSlot, slotAt, NotAmong, AllHeld, LowestFree, passes, firstAt, heldAt, isHeld, place}
 use Rattle.mock_areas.specs.Append.{Appending, TakesSlot, heldBy, appendedAt, appendStep, areaTold, AppendMeets}
 use Rattle.mock_areas.specs.declared.Area.{Area}
@@ -120,6 +121,22 @@ told-58 Written e = let z : _≡_ {A = ℕ} 0 1 = cc in absurd (omega arith)
 told-58 NoSlot e = refl
 told-58 SlotFull e = let z : _≡_ {A = ℕ} 58 59 = cc in absurd (omega arith)
 
+told-done : (a : AreaAnswer) → areaTold a ≡ given tt → a ≡ Written
+unfolding areaTold
+told-done Written e = refl
+told-done NoSlot e = let z : _≡_ {A = ℕ} 0 1 = cc in absurd (omega arith)
+told-done SlotFull e = let z : _≡_ {A = ℕ} 0 1 = cc in absurd (omega arith)
+
+-- a new number is not refused, where a slot is free and the bytes fit its size, by what an append tells
+pub new-number-told : (areas : Areas) (number : ℕ) (bytes store : List ℕ) → length (areas .slots) ≡ slotCount → (k : ℕ) → NotAmong number areas → LowestFree k areas
+    → length bytes ≤ slotSize (length store) → appendStep areas number bytes store .told ≡ given tt
+unfolding appendedAt
+new-number-told areas number bytes store eight k new here fits =
+    let p : Place = record { slot = k; used = 0 } in
+    let goes : p ≡ place number (areas .slots) =
+    sym (new-place areas number eight new ∙ ap (λ (i : ℕ). record { slot = i; used = 0 }) (lowest areas number eight k here)) in
+    ap (λ (a : Appending). a .told) (appended areas number bytes store p goes (here .slot) (omega arith))
+
 -- a call of `append`
 module _ (areas : Areas) (number : ℕ) (bytes store after : List ℕ) (r : AreaStep) (eight : length (areas .slots) ≡ slotCount)
     (meets : AppendMeets r after (appendStep areas number bytes store)) where
@@ -152,6 +169,24 @@ module _ (areas : Areas) (number : ℕ) (bytes store after : List ℕ) (r : Area
         },
         meets .leaves ∙ ap (λ (a : Appending). a .leaves) done ∙ ap (λ (at : ℕ). over at bytes store) (add-zero (k * size)),
       ))
+
+  -- it is not refused, where a slot is free and the bytes fit its size ..
+  pub new-number-written : (k : ℕ) → NotAmong number areas → LowestFree k areas → length bytes ≤ slotSize (length store) → r .answer ≡ Written
+  new-number-written k new here fits =
+      told-done (r .answer) (meets .tells ∙ new-number-told areas number bytes store eight k new here fits)
+
+  -- .. so that with no data it takes the lowest free slot, whatever the store's length, and no byte changes
+  pub takes-with-no-data : (k : ℕ) → NotAmong number areas → LowestFree k areas → bytes ≡ []
+      → (r .answer ≡ Written) × TakesSlot k number 0 areas (r .areas) × (after ≡ store)
+  takes-with-no-data k new here none =
+      let empty : length bytes ≡ 0 = ap length none in
+      let written = new-number-written k new here (omega arith) in
+      let takes = takes-lowest-free k new here written in
+      let at = k * slotSize (length store) in (
+        written,
+        subst (λ (n : ℕ). TakesSlot k number n areas (r .areas)) empty (takes .0),
+        takes .1 ∙ ap (λ (l : List ℕ). over at l store) none ∙ over-nothing at store,
+      )
 
   -- 58 exactly where the number is not held and all eight slots are
   pub no-slot-exactly : (NotAmong number areas × AllHeld areas → r .answer ≡ NoSlot) × (r .answer ≡ NoSlot → NotAmong number areas × AllHeld areas)
