@@ -30,6 +30,9 @@ const WAITING: usize = 16;
 /// Differences of a kind that are made small and printed; the others are counted.
 pub const SHOWN: usize = 3;
 
+/// The refusals of a full store.
+pub const FULL: [&str; 2] = ["58", "59"];
+
 pub type Cases = Box<dyn Iterator<Item = Case> + Send>;
 
 #[derive(Default)]
@@ -41,6 +44,8 @@ pub struct Count {
     pub differences: usize,
     /// Lines that were not of the language, and panics that were not expected.
     pub complaints: usize,
+    /// Calls that the Rust's side answered with each of `FULL`.
+    pub full: [usize; 2],
     /// The first cases that differed, up to the line that did.
     pub found: Vec<Case>,
 }
@@ -54,6 +59,8 @@ impl Count {
         }
         self.differences += other.differences;
         self.complaints += other.complaints;
+        self.full[0] += other.full[0];
+        self.full[1] += other.full[1];
         self.found.extend(other.found);
     }
 
@@ -94,10 +101,14 @@ pub fn compare_cases(program: &str, cases: Cases) -> io::Result<Count> {
     let mut answers = BufReader::with_capacity(1 << 17, child.stdout.take().expect("piped"));
     let (to, from) = sync_channel(WAITING);
     let feeder = thread::spawn(move || feed(cases, stdin, to));
-    let count = compare_batches(from, &mut answers)?;
+    let mut count = compare_batches(from, &mut answers)?;
     feeder.join().expect("the feeder does not panic");
     drop(answers);
-    child.wait()?;
+    let status = child.wait()?;
+    if !status.success() {
+        println!("the program ended with {status}");
+        count.differences += 1;
+    }
     Ok(count)
 }
 
@@ -121,6 +132,11 @@ fn compare_batches(from: Receiver<Arc<Vec<Case>>>, answers: &mut impl BufRead) -
     Ok(count)
 }
 
+/// The number of an answer; before that of a block stands the block's own.
+fn number<'a>(line: &str, answer: &'a str) -> Option<&'a str> {
+    answer.split(' ').nth(usize::from(line.starts_with("blk ")))
+}
+
 /// Whether the program still answers.
 fn compare_case(
     oracle: &mut Oracle,
@@ -138,6 +154,9 @@ fn compare_case(
         let reason = outside(&rust);
         if let Some(reason) = reason {
             *count.outside.entry(reason).or_default() += 1;
+        }
+        if let Some(n) = FULL.iter().position(|full| number(line, &rust) == Some(full)) {
+            count.full[n] += 1;
         }
         if !answered || (reason.is_none() && rust != *ours) {
             count.differences += 1;

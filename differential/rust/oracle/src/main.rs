@@ -25,6 +25,7 @@ use cases::{Kind, SAMPLE_SEED};
 use oracle::{Oracle, outside};
 use scale::Programs;
 
+/// Whether every line was of the language and the Rust panicked at none.
 fn answer() -> io::Result<bool> {
     let mut oracle = Oracle::default();
     let mut out = BufWriter::new(io::stdout().lock());
@@ -32,7 +33,7 @@ fn answer() -> io::Result<bool> {
         writeln!(out, "{}", oracle.answer(&line?))?;
     }
     out.flush()?;
-    Ok(true)
+    Ok(oracle.complaints().is_empty())
 }
 
 fn generate(seed: u64, count: usize, kinds: &[Kind]) -> io::Result<bool> {
@@ -50,7 +51,8 @@ fn generate(seed: u64, count: usize, kinds: &[Kind]) -> io::Result<bool> {
     Ok(true)
 }
 
-/// Lines that the Rust answers with `outside` are left out: by LANGUAGE.md that changes no other answer.
+/// Lines that the Rust answers with `outside` are left out: by LANGUAGE.md that changes no other answer. Whether the Rust
+/// panicked at none.
 fn sample(kinds: &[Kind]) -> io::Result<bool> {
     let mut oracle = Oracle::default();
     let mut out = BufWriter::new(io::stdout().lock());
@@ -64,7 +66,7 @@ fn sample(kinds: &[Kind]) -> io::Result<bool> {
         }
     }
     out.flush()?;
-    Ok(true)
+    Ok(oracle.complaints().is_empty())
 }
 
 fn dispatch(args: &[&str]) -> Option<io::Result<bool>> {
@@ -88,7 +90,7 @@ fn dispatch(args: &[&str]) -> Option<io::Result<bool>> {
 }
 
 fn main() -> ExitCode {
-    std::panic::set_hook(Box::new(|_| {}));
+    std::panic::set_hook(Box::new(oracle::tell_panic));
     let args: Vec<String> = std::env::args().skip(1).collect();
     let args: Vec<&str> = args.iter().map(String::as_str).collect();
     match dispatch(&args) {

@@ -1,6 +1,9 @@
 //! One line in, one answer out.
 
-use std::panic::{AssertUnwindSafe, catch_unwind};
+use std::{
+    cell::RefCell,
+    panic::{AssertUnwindSafe, PanicHookInfo, catch_unwind},
+};
 
 use crate::{
     blocks,
@@ -14,6 +17,28 @@ const OUTSIDE: &str = "outside ";
 /// The answer to a call at which the Rust panicked. The rules' domain has no such call, so it is a difference.
 pub const PANIC: &str = "panic";
 pub const LINE_LIMIT: usize = 4096;
+
+thread_local! {
+    /// While a panic of this thread would be caught: what it said, and where it was.
+    static CAUGHT: RefCell<Option<String>> = const { RefCell::new(None) };
+}
+
+/// The hook of panics: the text goes to who catches it, or else to standard error.
+pub fn tell_panic(panic: &PanicHookInfo<'_>) {
+    let text = panic.to_string().replace('\n', " ");
+    CAUGHT.with_borrow_mut(|caught| match caught {
+        Some(caught) => *caught = text,
+        None => eprintln!("oracle: {text}"),
+    });
+}
+
+/// A call of the Rust that may panic: the panic's text where it did.
+pub fn caught<R>(call: impl FnOnce() -> R) -> Result<R, String> {
+    CAUGHT.set(Some(String::new()));
+    let got = catch_unwind(AssertUnwindSafe(call));
+    let text = CAUGHT.take().unwrap_or_default();
+    got.map_err(|_| text)
+}
 
 #[derive(Default)]
 pub struct Oracle {
@@ -44,7 +69,7 @@ impl Oracle {
     }
 
     pub fn answer(&mut self, line: &str) -> String {
-        match catch_unwind(AssertUnwindSafe(|| self.call(line))) {
+        match caught(|| self.call(line)) {
             Ok(Ok(answer)) => answer,
             Ok(Err(Stop(reason))) => {
                 if reason == Reason::Unreadable {
@@ -52,10 +77,10 @@ impl Oracle {
                 }
                 format!("{OUTSIDE}{}", reason.word())
             }
-            Err(_) => {
+            Err(text) => {
                 let (complaints, is_quiet) = (std::mem::take(&mut self.complaints), self.is_quiet);
                 *self = Oracle { complaints, is_quiet, ..Oracle::default() };
-                self.complain(format!("a panic that was not expected: {line}"));
+                self.complain(format!("a panic that was not expected: {line}: {text}"));
                 PANIC.into()
             }
         }

@@ -10,7 +10,7 @@ use std::{
 
 use crate::{
     cases::{Kind, device, make::Rng, uploads},
-    compare::{Cases, Count, compare_cases, print_count, print_found, print_outside},
+    compare::{Cases, Count, FULL, compare_cases, print_count, print_found, print_outside},
 };
 
 /// Random calls of each kind. Of uploads there are those of every length beside these.
@@ -27,6 +27,12 @@ const CALLS: [(Kind, usize); 10] = [
     (Kind::Sizes, 160),
 ];
 
+/// In place of a command: the kind is not asked.
+const LEFT_OUT: &str = "-";
+
+/// Kinds whose cases fill a store, which 58 and 59 refuse.
+const FILLING: [Kind; 3] = [Kind::Device, Kind::Runs, Kind::Decks];
+
 /// A kind's calls are asked in so many pieces, so that no core is left idle for long.
 const PIECES: usize = 8;
 
@@ -34,7 +40,7 @@ const PIECES: usize = 8;
 pub struct Programs(Vec<(Kind, String)>);
 
 impl Programs {
-    /// From words KIND=COMMAND. None where a word is not such, or a kind has no program.
+    /// From words KIND=COMMAND; `sizes=-` leaves that kind out. None where a word is not such, or a kind has none.
     pub fn read(words: &[&str]) -> Option<Programs> {
         let mut programs = Vec::new();
         for word in words {
@@ -42,7 +48,8 @@ impl Programs {
             programs.extend(Kind::named(kinds)?.into_iter().map(|kind| (kind, command.to_string())));
         }
         let has = |kind: Kind| programs.iter().any(|(one, _)| *one == kind);
-        let all = CALLS.iter().all(|(kind, _)| has(*kind) || *kind == Kind::Sizes);
+        let all = CALLS.iter().all(|(kind, _)| has(*kind));
+        programs.retain(|(kind, command)| *kind != Kind::Sizes || command != LEFT_OUT);
         all.then_some(Programs(programs))
     }
 
@@ -129,8 +136,8 @@ fn work(
     }
 }
 
-/// Whether there was no difference, and no reason for `outside` above its bound. `share` takes one in so many of the
-/// calls.
+/// Whether there was no difference, no reason for `outside` above its bound and, where all is asked, a store that was
+/// full. `share` takes one in so many of the calls.
 pub fn scale(programs: &Programs, seed: u64, share: usize) -> io::Result<bool> {
     println!("seed {seed}");
     let began = Instant::now();
@@ -142,21 +149,38 @@ pub fn scale(programs: &Programs, seed: u64, share: usize) -> io::Result<bool> {
         workers.into_iter().try_for_each(|worker| worker.join().expect("no job panics"))
     })?;
     let counts = counts.into_inner().expect("no job panics");
-    report(programs, counts, began.elapsed())
+    report(programs, share, counts, began.elapsed())
 }
 
-fn report(programs: &Programs, mut counts: BTreeMap<&str, Count>, took: Duration) -> io::Result<bool> {
+/// Whether both refusals of a full store were among the answers of a kind that is to meet them.
+fn is_filled(kind: Kind, count: &Count) -> bool {
+    if !FILLING.contains(&kind) {
+        return true;
+    }
+    for (number, n) in FULL.iter().zip(count.full) {
+        println!("{}: answered {number} {n}{}", kind.name(), if n == 0 { ", which is NONE" } else { "" });
+    }
+    !count.full.contains(&0)
+}
+
+fn report(
+    programs: &Programs,
+    share: usize,
+    mut counts: BTreeMap<&str, Count>,
+    took: Duration,
+) -> io::Result<bool> {
     let mut all = Count::default();
     let mut all_kept = true;
     for (kind, _) in CALLS {
         if programs.find(kind).is_none() {
-            println!("{}: not asked, since no program was named for it", kind.name());
+            println!("{}: not asked, since its program was left out", kind.name());
             continue;
         }
         let count = counts.remove(kind.name()).unwrap_or_default();
         print_found(programs.of(kind), &count)?;
         print_count(&format!("{}: ", kind.name()), &count);
         all_kept &= print_outside(kind, &count);
+        all_kept &= share > 1 || is_filled(kind, &count);
         all.add(count);
     }
     println!("{} seconds", took.as_secs());

@@ -1,9 +1,6 @@
 //! Shows that each part works, and prints the faults of the Rust that the rules refuse.
 
-use std::{
-    fs, io,
-    panic::{AssertUnwindSafe, catch_unwind},
-};
+use std::{fs, io};
 
 use rockusb::{
     device::Transport,
@@ -16,13 +13,13 @@ use crate::{
     bounds::bound,
     cases::{ALL, Kind, SAMPLE_SEED, generate, make::Case},
     compare::{Count, is_kept},
-    oracle::{LINE_LIMIT, Oracle, PANIC, outside},
+    oracle::{LINE_LIMIT, Oracle, PANIC, caught, outside},
     text::Reason,
 };
 
 /// A call of the Rust that may panic: none where it did.
 fn asked<R>(call: impl FnOnce() -> R) -> Option<R> {
-    catch_unwind(AssertUnwindSafe(call)).ok()
+    caught(call).ok()
 }
 
 /// Whether everything held.
@@ -34,6 +31,7 @@ pub fn selftest(page: &str) -> io::Result<bool> {
         ("generated cases are of the language", generated()),
         ("samples hold no `outside` and answer as in their full cases", samples()),
         ("58 and 59 leave the device and the upload as the rules say", refused_by_the_store()),
+        ("cases reach 65,536 sectors, data of 65,535 and a budget of 10,000", reached()),
         ("a reason above its bound fails a run, and so does a panic", bounded()),
         ("faults of the Rust", faults()),
     ];
@@ -186,6 +184,26 @@ fn refused_by_the_store() -> Vec<String> {
         check(&mut bad, &mut oracle, line, wanted);
     }
     bad
+}
+
+/// The largest sizes of the rules, in the cases that need no seed and in the answers to them.
+fn reached() -> Vec<String> {
+    let mut oracle = Oracle::default();
+    let lines = Kind::Sizes.exhaustive().concat();
+    let asked: Vec<(&str, String)> = lines.iter().map(|line| (line.as_str(), oracle.answer(line))).collect();
+    let has = |call: &str, answer: &str| {
+        asked.iter().any(|(line, got)| line.starts_with(call) && got.starts_with(answer))
+    };
+    let wanted = [
+        ("dvc", "0 | 33554432#"),
+        ("bwr s 33553920", "0 |"),
+        ("brd 33553920", "0 |"),
+        ("run 10000", "0 33553920 | 4 |"),
+        ("run 4", "0 33553920 | 4 |"),
+        ("urn 10000", "28 | 10000 |"),
+    ];
+    let missing = wanted.into_iter().filter(|(call, answer)| !has(call, answer));
+    missing.map(|(call, answer)| format!("no {call} with the answer {answer}")).collect()
 }
 
 fn bounded() -> Vec<String> {
