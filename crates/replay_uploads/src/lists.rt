@@ -2,13 +2,16 @@
 use maskrom::Control;
 use maskrom::MaskRomOperation;
 use maskrom::PartStep;
+use maskrom::UploadStart;
 use maskrom::UploadStep;
 use maskrom::WholeUpload;
 use replay_answers::out::spaced_bytes;
 use replay_answers::out::value;
 use replay_answers::told::Answer;
 use replay_answers::told::Tail;
+use replay_answers::told::none;
 use replay_answers::told::one;
+use replay_answers::told::plain;
 use replay_answers::told::with_tail;
 use replay_lines::asked::Asked;
 use replay_lines::asked::PART;
@@ -21,11 +24,12 @@ use replay_steps::uploads::begun;
 // more turns than any list of transfers takes
 const TURNS: u64 = 1000000000;
 
-// A list of transfers: how many, and where its text ends.
+// A list of transfers: how many, where its text ends, and the number of the first refusal, 0 where nothing was refused.
 struct List {
     count: u64,
     at: usize,
     is_over: bool,
+    number: u64,
 }
 
 fn empty_list() -> List {
@@ -33,6 +37,7 @@ fn empty_list() -> List {
         count: 0,
         at: 0,
         is_over: false,
+        number: 0,
     }
 }
 
@@ -46,21 +51,28 @@ fn with_transfer(text: &mut [u8], list: List, control: Control, bytes: &[u8]) ->
         count: std::num::wrapping_add_u64(list.count, 1),
         at: spaced_bytes(text, at, bytes, control.size),
         is_over: false,
+        number: list.number,
     }
 }
 
-fn over(list: List) -> List {
+// The finish, or a refusal.
+fn over(list: List, number: u8) -> List {
     List {
         count: list.count,
         at: list.at,
         is_over: true,
+        number: if list.number == 0 {
+            number as u64
+        } else {
+            list.number
+        },
     }
 }
 
 fn listed(text: &mut [u8], list: List, step: UploadStep, bytes: &[u8]) -> List {
     match step {
         UploadStep::WriteControl(control) => with_transfer(text, list, control, bytes),
-        _ => over(list),
+        _ => over(list, step.number()),
     }
 }
 
@@ -79,7 +91,7 @@ fn next_whole(whole: Whole, image: &[u8], text: &mut [u8]) -> Whole {
     Whole { record, list }
 }
 
-fn whole_list(record: WholeUpload, image: &[u8], text: &mut [u8]) -> List {
+fn whole_steps(record: WholeUpload, image: &[u8], text: &mut [u8]) -> Whole {
     let list = empty_list();
     let mut whole = Whole { record, list };
     let mut turns = TURNS;
@@ -87,17 +99,31 @@ fn whole_list(record: WholeUpload, image: &[u8], text: &mut [u8]) -> List {
         whole = next_whole(whole, image, text);
         turns -= 1;
     }
-    whole.list
+    whole
+}
+
+// The step after the last one must be the finish again: a transfer there is one too many.
+fn whole_list(record: WholeUpload, image: &[u8], text: &mut [u8]) -> List {
+    let whole = whole_steps(record, image, text);
+    let last = next_whole(whole, image, text);
+    last.list
 }
 
 fn list_answer(list: List) -> Answer {
+    if list.number != 0 {
+        return plain(none(list.number));
+    }
     with_tail(one(0, list.count), Tail::Text(list.at))
 }
 
 // `all`
 pub(crate) fn all(asked: Asked, bytes: &[u8], text: &mut [u8]) -> Answer {
     let begun = begun(as_u16(asked.a), asked.b == 1, bytes);
-    list_answer(whole_list(begun.upload, bytes, text))
+    let outcome = begun.start;
+    match outcome {
+        UploadStart::Started => list_answer(whole_list(begun.upload, bytes, text)),
+        UploadStart::ImageTooLong => plain(none(outcome.number() as u64)),
+    }
 }
 
 // A part-wise upload on its way: its record and list, how much of the image was taken, where the part at hand ends and whether it
@@ -128,7 +154,7 @@ fn part_list(text: &mut [u8], list: List, step: PartStep, bytes: &[u8]) -> List 
     match step {
         PartStep::Taken(_) => list,
         PartStep::WriteControl(_, control) => with_transfer(text, list, control, bytes),
-        _ => over(list),
+        _ => over(list, step.number()),
     }
 }
 
@@ -217,25 +243,27 @@ fn new_cut(area: u16, is_checked: bool, first: usize) -> Cut {
     }
 }
 
-fn cut_list(
+fn cut_steps(
     line: &[u8],
     first: usize,
     count: u64,
     image: &[u8],
     text: &mut [u8],
     start: Cut,
-) -> List {
+) -> Cut {
     let mut cut = start;
     let mut turns = TURNS;
     while turns > 0 && !cut.list.is_over {
         cut = next_cut(line, first, count, image, text, cut);
         turns -= 1;
     }
-    cut.list
+    cut
 }
 
-// `cut`
+// `cut`. The close after the last one must be the finish again.
 pub(crate) fn cut_up(line: &[u8], asked: Asked, bytes: &[u8], text: &mut [u8]) -> Answer {
     let start = new_cut(as_u16(asked.a), asked.b == 1, asked.place);
-    list_answer(cut_list(line, asked.place, asked.c, bytes, text, start))
+    let cut = cut_steps(line, asked.place, asked.c, bytes, text, start);
+    let last = close(text, cut);
+    list_answer(last.list)
 }
