@@ -12,7 +12,8 @@
 -- A run of an operation: `OperationSteps` has how many steps it takes, `SectorsLand` what it leaves of flash and data, `CallsByTurn` that a bulk call
 -- is the table's turn, `CallsThatEnd` which calls end the transaction, `NoTransactionLeft` that none is left after a run, `BetweenRuns` what holds
 -- between one run and the next, `FromStatus`, `FromStart` and `FromData` how a run goes on from there, `OperationEnds` what each operation ends in,
--- `OperationTold` what any may be told, `OperationMakes` that the device's record is one that calls from a fresh start can make.
+-- `OperationTold` what any may be told, `CommandsAreBytes` that its command goes out as bytes, `OperationMakes` that the device's record is one that calls
+-- from a fresh start can make, `OperationAnswered` that every step and giving has an answer, `OperationHandedBack` that the operation's record is such a one.
 -- A run that ended in 28: `CheckedRuns` has that it and the run that resumes it are one run, if its checks pass again, `OperationResumed` and
 -- `UploadResumed` that they do, for the runs that are called.
 -- A deck: `BenchStart` has the flash that a bench starts with, `BetweenBlocks` what holds between one block and the next, `DeckRefusals` the refusals
@@ -56,7 +57,10 @@ pub mod FromStart
 pub mod FromData
 pub mod OperationEnds
 pub mod OperationTold
+pub mod CommandsAreBytes
 pub mod OperationMakes
+pub mod OperationAnswered
+pub mod OperationHandedBack
 pub mod CheckedRuns
 pub mod OperationResumed
 pub mod UploadResumed

@@ -1,12 +1,12 @@
 -- A run of an operation, at any end and budget, makes of a record that calls from a fresh start made another such record.
 use Prim.Native.Nat.{ℕ, zero, suc}
 use mathlib.Core.Path.{_≡_, refl, ap, sym, subst, _∙_}
-use mathlib.Core.Bool.{true, false}
+use mathlib.Core.Bool.{Bool, true, false}
 use mathlib.Core.List.{List, [], _∷_, _++_}
 use native.Mathlib.Omega.{arith}
 use lib.ListN.{length, take, replicate}
 use Rattle.promise.specs.Told.{Told, given, refused, andThen}
-use Rattle.promise.specs.Rules.{orRefuse}
+use Rattle.promise.specs.Rules.{pick, orRefuse}
 use Rattle.promise.specs.Bytes.{AreBytes}
 use Rattle.promise.specs.Run.{Turned, ends, goes, Ran, follow, runs}
 use Rattle.promise.proofs.Outcome.{either-way}
@@ -30,23 +30,16 @@ use Rattle.operation.specs.Record.{ioOf, transferLength, inbandLength, turned, 
 use Rattle.operation.specs.Step.{Asks, writesData, Step, does, stays, dataRule, finishedTold, commandStep, ioStep, statusStep, finishStep, stepOf}
 use Rattle.operation.specs.Step as step
 use Rattle.operation.proofs.Laws.{give-keeps}
-use Rattle.run_turn.specs.Turn.{UsbState, usbState, isWrite, onward, wrote, bufferFor, landed, giving, gives, received, got, transfers, after, usbTurn}
+use Rattle.operation_finish.specs.declared.Beside.{Beside}
+use Rattle.run_turn.specs.declared.Turn.{Turn}
+use Rattle.run_turn.specs.declared.Turn.the-variants as turn
+use Rattle.run_turn.specs.declared.UsbTurned.{UsbTurned}
+use Rattle.run_turn.specs.Turn.{UsbState, usbState, isWrite, onward, wrote, bufferFor, landed, giving, gives, received, got, transfers, after, lentTo, usbTurn}
+use Rattle.run_turn.specs.Answers.{turnTold, LentMeets}
 use Rattle.run_operation.specs.declared.UsbRun.{UsbRun}
 use Rattle.run_operation.specs.Run.{runRules, unstarted, usbRun}
 use Rattle.run_operation.specs.Answers.{RunMeets}
-
--- bytes of bytes are bytes
-are-none : AreBytes []
-are-none i = omega arith
-
-are-cons : (b : ℕ) (bytes rest : List ℕ) → AreBytes (b ∷ bytes) → AreBytes rest → AreBytes (b ∷ rest)
-are-cons b bytes rest h k zero = h 0
-are-cons b bytes rest h k (suc i) = k i
-
-are-take : (n : ℕ) (bytes : List ℕ) → AreBytes bytes → AreBytes (take n bytes)
-are-take zero bytes h = are-none
-are-take (suc n) [] h = are-none
-are-take (suc n) (b ∷ bytes) h = are-cons b bytes (take n bytes) h (are-take n bytes (λ i. h (suc i)))
+use Rattle.theorems.proofs.CommandsAreBytes.{are-take}
 
 -- an operation at such a device: its command goes out as bytes, and so does the data of a write
 record Fit (config : MockDeviceConfig) (n : ℕ) (s : UsbState) : Type 0 where
@@ -187,15 +180,37 @@ module _ (config : MockDeviceConfig) (n : ℕ) where
   runs-fit zero s f = f
   runs-fit (suc budget) s f = follow-fit (usbTurn s) (λ next. runs usbTurn budget next) (turn-fit s f) (λ next g. runs-fit budget next g)
 
-  -- over the contract of `run`, and so of `run_whole`; with the data that `run_write` is lent, of that and of `run_whole_write`. What goes out is
-  -- bytes, as it is for whoever has a record of these types
+  turned-fit : (t : Turn) (b : Beside) (s : UsbState) → Turns (turnTold t b s) → Fit config n s
+  unfolding turnTold
+  turned-fit turn.Goes b s f = f
+  turned-fit (turn.Ends stop) b s f = f
+
+  -- over the contract of `take_turn`. What goes out is bytes, as it is for whoever has a record of these types
+  pub turn-makes : (r : UsbTurned) (op : UsbOperation) (device : MockState) (flash source room left now : List ℕ) → Made config n device
+      → AreBytes (commandOut op) → (isWrite (op .kind) ≡ true → AreBytes source)
+      → LentMeets r (op .kind) source room left now (usbTurn (usbState op device flash (lentTo (op .kind) source room))) → Made config n (r .device)
+  turn-makes r op device flash source room left now made command lent m =
+      let s = usbState op device flash (lentTo (op .kind) source room) in
+      let f : Fit config n s =
+      record { made = made; command = command; lent = λ w. subst (λ (b : Bool). AreBytes (pick b source room)) (sym w) (lent w) } in
+      turned-fit (r .turn) (r .beside) (usbState (r .operation) (r .device) left (lentTo (op .kind) source now))
+      (subst Turns (sym (m .turns .tells)) (turn-fit s f)) .made
+
+  -- what the definition of a run leaves
+  pub run-leaves-made : (op : UsbOperation) (device : MockState) (flash bytes : List ℕ) (store budget : ℕ) → Made config n device
+      → AreBytes (commandOut op) → (isWrite (op .kind) ≡ true → AreBytes bytes)
+      → Made config n (usbRun (usbState op device flash bytes) store budget .state .device)
+  unfolding usbRun
+  run-leaves-made op device flash bytes store budget made command lent =
+      let s = usbState op device flash bytes in
+      let f : Fit config n s = record { made = made; command = command; lent = lent } in
+      either-way (λ (w : Ran Reply UsbState). Made config n (w .state .device)) (unstarted s) (runRules s store) (runs usbTurn budget s)
+      (λ number values. made) (λ met. runs-fit budget s f .made)
+
+  -- over the contract of `run`, and so of `run_whole`; with the data that `run_write` is lent, of that and of `run_whole_write`
   pub run-makes : (r : UsbRun) (op : UsbOperation) (device : MockState) (flash bytes left now : List ℕ) (store budget : ℕ) → Made config n device
       → AreBytes (commandOut op) → (isWrite (op .kind) ≡ true → AreBytes bytes) → RunMeets r left now (usbRun (usbState op device flash bytes) store budget)
       → Made config n (r .device)
-  unfolding usbRun
   run-makes r op device flash bytes left now store budget made command lent m =
-      let s = usbState op device flash bytes in
-      let f : Fit config n s = record { made = made; command = command; lent = lent } in
       subst (λ (d : MockState). Made config n d) (sym (ap (λ (t : UsbState). t .device) (m .leaves)))
-      (either-way (λ (w : Ran Reply UsbState). Made config n (w .state .device)) (unstarted s) (runRules s store) (runs usbTurn budget s)
-      (λ number values. made) (λ met. runs-fit budget s f .made))
+      (run-leaves-made op device flash bytes store budget made command lent)
