@@ -8,7 +8,7 @@
 -- record.
 -- A run of an upload: `UploadTransfers` has its control writes, `UploadSteps` how many steps it takes, `UploadRefusals` which refusals it can meet,
 -- `TwoWritesAreOne` that two writes to an area are one, `UploadLands` what the upload leaves, `UploadKeeps` what it keeps,
--- `UploadMakes` that the device's record is one that calls from a fresh start can make.
+-- `UploadMakes` that the device's record is one that calls from a fresh start can make, `UploadHandedBack` that the upload's is.
 -- A run of an operation: `OperationSteps` has how many steps it takes, `SectorsLand` what it leaves of flash and data, `CallsByTurn` that a bulk call
 -- is the table's turn, `CallsThatEnd` which calls end the transaction, `NoTransactionLeft` that none is left after a run, `BetweenRuns` what holds
 -- between one run and the next, `FromStatus`, `FromStart` and `FromData` how a run goes on from there, `OperationEnds` what each operation ends in,
@@ -46,6 +46,7 @@ pub mod TwoWritesAreOne
 pub mod UploadLands
 pub mod UploadKeeps
 pub mod UploadMakes
+pub mod UploadHandedBack
 pub mod OperationSteps
 pub mod SectorsLand
 pub mod CallsByTurn

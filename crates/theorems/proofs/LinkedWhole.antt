@@ -33,7 +33,8 @@ use Rattle.theorems.proofs.AnyCut.{started}
 use Rattle.theorems.proofs.CallsAnswered.{asked-told}
 use Rattle.theorems.proofs.PartsOfOneSize.{step-number}
 
-whole-told : (u : WholeUpload) (image : List ℕ) (room : ℕ) → Dec (room < 4096) → Dec (length image ≡ u .length)
+-- a call of `step` on a whole upload has an answer, at every record
+pub whole-told : (u : WholeUpload) (image : List ℕ) (room : ℕ) → Dec (room < 4096) → Dec (length image ≡ u .length)
     → (s : UploadStep) × (stepTold s ≡ said (wholeStep u image room))
 unfolding said stepTold
 whole-told u image room (yes h) d = (upload.OutputTooShort, sym (ap said (whole-20 u image room h)))

@@ -15,9 +15,12 @@ use Rattle.mock_base.specs.declared.config.MockDeviceConfig.{MockDeviceConfig}
 use Rattle.mock.specs.declared.device.MockState.{MockState}
 use Rattle.mock.specs.Device.{writeControl}
 use Rattle.mock.specs.Made.{Made, controls}
+use Rattle.run_upload.specs.declared.LoadTurn.{LoadTurn}
+use Rattle.run_upload.specs.declared.LoadTurn.the-variants as turn
+use Rattle.run_upload.specs.declared.LoadTurned.{LoadTurned}
 use Rattle.run_upload.specs.declared.LoadRun.{LoadRun}
 use Rattle.run_upload.specs.Load.{LoadState, loadState, onward, carries, loadTurn, loadRules, unstarted, loadRun}
-use Rattle.run_upload.specs.Answers.{RunMeets}
+use Rattle.run_upload.specs.Answers.{turnTold, TurnMeets, RunMeets}
 
 module _ (config : MockDeviceConfig) (n : ℕ) where
   abbrev Turns : Turned Unit LoadState → Type 0
@@ -56,12 +59,29 @@ module _ (config : MockDeviceConfig) (n : ℕ) where
   runs-make image (suc budget) s made =
       follow-makes (loadTurn image s) (λ next. runs (loadTurn image) budget next) (turn-makes image s made) (λ next on. runs-make image budget next on)
 
+  turned-makes : (t : LoadTurn) (s : LoadState) → Turns (turnTold t s) → Made config n (s .device)
+  unfolding turnTold
+  turned-makes turn.Goes s made = made
+  turned-makes (turn.Ends stop) s made = made
+
+  -- over the contract of `load_turn`
+  pub upload-turn-makes : (r : LoadTurned) (u : WholeUpload) (device : MockState) (image store left : List ℕ) → Made config n device
+      → TurnMeets r left (loadTurn image (loadState u device store)) → Made config n (r .device)
+  upload-turn-makes r u device image store left made m =
+      turned-makes (r .turn) (loadState (r .upload) (r .device) left) (subst Turns (sym (m .tells)) (turn-makes image (loadState u device store) made))
+
+  -- what the definition of a run leaves
+  pub upload-leaves-made : (u : WholeUpload) (device : MockState) (image store : List ℕ) (flash budget : ℕ) → Made config n device
+      → Made config n (loadRun image flash budget (loadState u device store) .state .device)
+  unfolding loadRun
+  upload-leaves-made u device image store flash budget made =
+      let s = loadState u device store in
+      either-way (λ (w : Ran Unit LoadState). Made config n (w .state .device)) (unstarted s) (loadRules s flash (length image))
+      (runs (loadTurn image) budget s) (λ number values. made) (λ met. runs-make image budget s made)
+
   -- over the contract of `run_upload`, and so of `run_whole_upload`
   pub upload-makes : (r : LoadRun) (u : WholeUpload) (device : MockState) (image store left : List ℕ) (flash budget : ℕ) → Made config n device
       → RunMeets r left (loadRun image flash budget (loadState u device store)) → Made config n (r .device)
-  unfolding loadRun
   upload-makes r u device image store left flash budget made m =
-      let s = loadState u device store in
       subst (λ (d : MockState). Made config n d) (sym (ap (λ (t : LoadState). t .device) (m .leaves)))
-      (either-way (λ (w : Ran Unit LoadState). Made config n (w .state .device)) (unstarted s) (loadRules s flash (length image))
-      (runs (loadTurn image) budget s) (λ number values. made) (λ met. runs-make image budget s made))
+      (upload-leaves-made u device image store flash budget made)
