@@ -18,7 +18,7 @@
 -- `UploadResumed` that they do, for the runs that are called.
 -- A deck: `BenchStart` has the flash that a bench starts with, `BetweenBlocks` what holds between one block and the next, `DeckRefusals` the refusals
 -- that the bench can meet, `BlockNumbers` each block's number and tag, `AnyChunks` that any chunks give the lines
--- of the whole, `DeckLines` where the lines end.
+-- of the whole, `DeckLines` where the lines end, `DeckMakes` that the device's record is one that calls from a fresh start can make.
 pub mod CutIntoTransfers
 pub mod BehindTheImage
 pub mod StepsToFinish
@@ -71,3 +71,4 @@ pub mod DeckRefusals
 pub mod BlockNumbers
 pub mod AnyChunks
 pub mod DeckLines
+pub mod DeckMakes
