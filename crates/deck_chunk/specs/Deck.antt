@@ -3,10 +3,11 @@ use Prim.Native.Nat.{ℕ, zero, suc, _+_, _/_}
 use mathlib.Core.Bool.{Bool, true, false}
 use mathlib.Core.List.{List, [], _∷_, _++_}
 use lib.Dec.{ltb}
-use lib.ListN.{length, take, drop}
+use lib.ListN.{length, take, drop, replicate}
 use Rattle.promise.specs.Rules.{pick}
 use Rattle.mock_base.specs.Config.{defaultFlash}
 use Rattle.deck_block.specs.Block.{blockLength}
+use Rattle.deck.specs.declared.bench.Bench.{Bench}
 use Rattle.deck.specs.Deal.{Deal}
 use Rattle.deck.specs.Bench.{freshBench, nextTag, nextNumber, benchAt, nextDeal}
 use Rattle.deck_line.specs.Line.{lineText}
@@ -80,9 +81,13 @@ blocksOf input = cut (begun (length input)) input
 abbrev pub dealAll : List ℕ → Table → Lines
 dealAll input t = dealBlocks (blocksOf input) t
 
+-- a deck of which no block is dealt yet
+abbrev pub newDeck : Bench → Deck
+newDeck bench = record { bench = bench; «is_over» = false }
+
 -- "The device starts as the Rust's default", with a store
 abbrev pub freshDeck : ℕ → Deck
-freshDeck storeLength = record { bench = freshBench storeLength; «is_over» = false }
+freshDeck storeLength = newDeck (freshBench storeLength)
 
 abbrev pub deckStart : List ℕ → Table
 deckStart store = table (freshDeck (length store)) defaultFlash store
@@ -90,3 +95,14 @@ deckStart store = table (freshDeck (length store)) defaultFlash store
 -- all lines that are printed for an input
 abbrev pub deckLines : List ℕ → List ℕ → List ℕ
 deckLines store input = dealAll input (deckStart store) .text
+
+-- "with a 65,536-byte store"
+abbrev pub benchStoreLength : ℕ
+benchStoreLength = 65536
+
+unfoldable pub benchStore : List ℕ
+benchStore = replicate benchStoreLength 0
+
+-- all lines that `bench` prints for an input
+abbrev pub benchLines : List ℕ → List ℕ
+benchLines input = deckLines benchStore input

@@ -9,7 +9,7 @@ ghost use lib.ListN.{length, take};
 ghost use Rattle.promise.specs.Told.{number};
 ghost use Rattle.promise.specs.Over.{over};
 ghost use Rattle.deck_line.specs.Line.{longestLine};
-ghost use Rattle.deck_chunk.specs.Deck.{table, begun, dealNext, dealAll};
+ghost use Rattle.deck_chunk.specs.Deck.{table, begun, newDeck, dealNext, dealAll};
 ghost use Rattle.deck_chunk.specs.Chunk.{chunkTold, dealChunk, ChunkMeets};
 ghost use Rattle.deck_chunk.specs.Code.{blockAt, LinedMeets, NextMeets, DoneMeets};
 
@@ -165,6 +165,16 @@ fn deal_blocks(
 }
 
 impl Deck {
+    // A deck of which no block is dealt yet.
+    pub fn new(bench: Bench) -> Deck
+        ensures { λ r. ⌜ r ≡ newDeck bench ⌝ }
+    {
+        Deck {
+            bench,
+            is_over: false,
+        }
+    }
+
     // Deals a chunk's blocks, of which the last may be short. Once the deck is over, nothing is dealt.
     pub fn deal_chunk(
         self,

@@ -1,10 +1,9 @@
 -- A deck dealt in any chunks of whole blocks, the last of which may be of any length, gives the lines of the whole and leaves what the whole leaves.
 use Prim.Native.Nat.{ℕ, _*_, _≤_}
 use mathlib.Core.Path.{_≡_, refl, ap, ap₂, sym, subst, _∙_}
-use mathlib.Core.Bool.{false}
 use mathlib.Core.List.{List, [], _∷_, _++_}
 use native.Mathlib.Omega.{arith}
-use lib.ListN.{length, take, drop}
+use lib.ListN.{length, take, drop, length-replicate}
 use lib.Seq.{take-append-seam}
 use borrow.Author.Tests.{le-ltb}
 use Rattle.promise.specs.Told.{Told, given, refused}
@@ -19,7 +18,7 @@ use Rattle.deck_chunk.specs.declared.ChunkCount.{ChunkCount}
 use Rattle.deck_chunk.specs.declared.ChunkAnswer.{ChunkAnswer}
 use Rattle.deck_chunk.specs.declared.ChunkAnswer.the-variants.{Dealt, TooShort}
 use Rattle.deck_chunk.specs.declared.ChunkStep.{ChunkStep}
-use Rattle.deck_chunk.specs.Deck.{Table, table, Lines, lines, thenDeal, begun, dealAll, deckStart, deckLines}
+use Rattle.deck_chunk.specs.Deck.{Table, table, Lines, lines, thenDeal, begun, dealAll, newDeck, deckStart, deckLines, benchStoreLength, benchStore, benchLines}
 use Rattle.deck_chunk.specs.Chunk.{chunkTold, Chunk, chunkDealt, dealChunk, ChunkMeets}
 use Rattle.deck_chunk.proofs.Laws.{fits}
 use Rattle.deck_chunk.proofs.Cuts.{chunk-then, chunk-alone, no-input}
@@ -81,9 +80,20 @@ any-chunks t (c ∷ next ∷ others) text end whole (a-chunk s chunk buffer r af
 
 -- from a fresh start with as many bytes of flash as the Rust's default has
 pub whole-deck : (r : BenchStart) (after flash store : List ℕ) (chunks : List (List ℕ)) (text : List ℕ) (end : Table) → length flash ≡ 65536
-    → StartMeets r after flash (length store) → WholeButLast chunks → Deals (table (record { bench = r .bench; «is_over» = false }) after store) chunks text end
+    → StartMeets r after flash (length store) → WholeButLast chunks → Deals (table (newDeck (r .bench)) after store) chunks text end
     → (text ≡ deckLines store (joined chunks)) × (end ≡ dealAll (joined chunks) (deckStart store) .leaves)
 whole-deck r after flash store chunks text end long m whole deals =
-    let fresh : table (record { bench = r .bench; «is_over» = false }) after store ≡ deckStart store =
-    ap₂ (λ (b : Bench) (f : List ℕ). table (record { bench = b; «is_over» = false }) f store) (m .fresh) (default-start r after flash (length store) long m .1) in
+    let fresh : table (newDeck (r .bench)) after store ≡ deckStart store =
+    ap₂ (λ (b : Bench) (f : List ℕ). table (newDeck b) f store) (m .fresh) (default-start r after flash (length store) long m .1) in
     any-chunks (deckStart store) chunks text end whole (subst (λ (t : Table). Deals t chunks text end) fresh deals)
+
+store-long : length benchStore ≡ benchStoreLength
+unfolding benchStore
+store-long = length-replicate {A = ℕ} benchStoreLength 0
+
+-- and with the store that the rules give it
+pub bench-deck : (r : BenchStart) (after flash : List ℕ) (chunks : List (List ℕ)) (text : List ℕ) (end : Table) → length flash ≡ 65536
+    → StartMeets r after flash benchStoreLength → WholeButLast chunks → Deals (table (newDeck (r .bench)) after benchStore) chunks text end
+    → (text ≡ benchLines (joined chunks)) × (end ≡ dealAll (joined chunks) (deckStart benchStore) .leaves)
+bench-deck r after flash chunks text end long m whole deals =
+    whole-deck r after flash benchStore chunks text end long (subst (λ (n : ℕ). StartMeets r after flash n) (sym store-long) m) whole deals

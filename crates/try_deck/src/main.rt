@@ -52,23 +52,20 @@ fn deal_and_print(
 
 // Chunks of so many bytes, until nothing is left, and empty ones then.
 fn deal_cut(
-    bench: Bench,
+    deck: Deck,
     input: &[u8],
     size: usize,
     lines: &mut [u8; 2048],
     flash: &mut [u8; 65536],
     store: &mut [u8; 65536],
 ) {
-    let mut deck = Deck {
-        bench,
-        is_over: false,
-    };
+    let mut next = deck;
     let mut from = 0;
     for _ in 0..TURNS {
         let at = within(from, input);
         let rest = &input[at..];
         let n = within(size, rest);
-        deck = deal_and_print(deck, &rest[..n], lines, flash, store);
+        next = deal_and_print(next, &rest[..n], lines, flash, store);
         from = at + n;
     }
 }
@@ -89,7 +86,8 @@ fn deal_first(input: &[u8], length: usize, size: usize) {
     let n = within(length, input);
     let start = Bench::new(&mut flash, &store);
     let bench = start.bench;
-    deal_cut(bench, &input[..n], size, &mut lines, &mut flash, &mut store);
+    let deck = Deck::new(bench);
+    deal_cut(deck, &input[..n], size, &mut lines, &mut flash, &mut store);
 }
 
 // A buffer that is a byte too short for one line, and then the same block with one that is not.
@@ -102,10 +100,7 @@ fn short_buffer(input: &[u8]) {
     let n = within(512, input);
     let start = Bench::new(&mut flash, &store);
     let bench = start.bench;
-    let deck = Deck {
-        bench,
-        is_over: false,
-    };
+    let deck = Deck::new(bench);
     let next = deal_and_print(deck, &input[..n], &mut short, &mut flash, &mut store);
     deal_and_print(next, &input[..n], &mut lines, &mut flash, &mut store);
 }

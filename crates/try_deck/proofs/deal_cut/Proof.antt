@@ -5,10 +5,10 @@ use Rattle.try_deck.proofs.deal_cut.Statement.{statement}
 use Rattle.try_deck.proofs.deal_cut.Tie as tie
 
 abbrev Inv-loop : tie.InvT-loop
-Inv-loop input size lines₀ flash₀ store₀ deck₀ from₀ counter₀ lines flash store deck from counter = Unit {0}
+Inv-loop input size lines₀ flash₀ store₀ next₀ from₀ counter₀ lines flash store next from counter = Unit {0}
 
 abbrev μ-loop : tie.MeasureT-loop
-μ-loop input size lines₀ flash₀ store₀ deck₀ from₀ counter₀ lines flash store deck from counter = 20 - counter
+μ-loop input size lines₀ flash₀ store₀ next₀ from₀ counter₀ lines flash store next from counter = 20 - counter
 
 pub deal-cut-spec : {M : Type 1} → statement M
 deal-cut-spec =
