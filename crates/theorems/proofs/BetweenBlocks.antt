@@ -1,5 +1,5 @@
 -- Between blocks the head has no transaction, and what it is lent is as long as ever: after every block, and so after every deck.
-use Prim.Native.Nat.{ℕ, _+_, _*_, _%_, _^_}
+use Prim.Native.Nat.{ℕ, _*_}
 use mathlib.Core.Path.{_≡_, refl, ap, sym, subst}
 use mathlib.Core.Bool.{Bool, true, false}
 use mathlib.Core.List.{List, [], _∷_}
@@ -26,7 +26,11 @@ use Rattle.deck_block.specs.declared.Request.the-variants as request
 use Rattle.deck_block.specs.Reading.{readCard}
 use Rattle.deck.specs.Deal.{Head, head}
 use Rattle.deck.specs.Dealing.{operate, loadOf, load, carryOut, dealAsked, dealBlock}
-use Rattle.theorems.specs.Deck.{Ready, afterDeck}
+use Rattle.deck.specs.Bench.{nextTag}
+use Rattle.deck_chunk.specs.Deck.{Table, table, blocksOf, dealNext, dealBlocks, dealAll}
+use Rattle.theorems.specs.Deck.{Ready, headOf}
+use Rattle.theorems.specs.Chunks.{Deals, no-more, a-chunk}
+use Rattle.theorems.proofs.AnyChunks.{its-table}
 
 module _ (sectors : ℕ) (h : Head) (ready : Ready sectors h) where
   operated : (op : UsbOperation) (bytes : List ℕ) → Ready sectors (operate op bytes h .leaves)
@@ -73,11 +77,28 @@ module _ (sectors : ℕ) (h : Head) (ready : Ready sectors h) where
   unfolding dealBlock
   block-ready tag block = dealt tag (readCard tag block)
 
-pub deck-ready : (sectors tag : ℕ) (blocks : List (List ℕ)) (h : Head) → Ready sectors h → Ready sectors (afterDeck tag blocks h)
-unfolding afterDeck
-deck-ready sectors tag [] h ready = ready
-deck-ready sectors tag (block ∷ blocks) h ready =
-    deck-ready sectors ((tag + 1) % 2 ^ 32) blocks _ (block-ready sectors h ready ((tag + 1) % 2 ^ 32) block)
+-- a block of a deck, and none once it is over
+next-ready : (sectors : ℕ) (block : List ℕ) (t : Table) (isOver : Bool) → t .deck .«is_over» ≡ isOver → Ready sectors (headOf t) → Ready sectors (headOf (dealNext block t .leaves))
+unfolding dealNext
+next-ready sectors block t true e ready = rw e ready
+next-ready sectors block t false e ready = rw e (block-ready sectors (headOf t) ready (nextTag (t .deck .bench)) block)
+
+blocks-ready : (sectors : ℕ) (blocks : List (List ℕ)) (t : Table) → Ready sectors (headOf t) → Ready sectors (headOf (dealBlocks blocks t .leaves))
+unfolding dealBlocks
+blocks-ready sectors [] t ready = ready
+blocks-ready sectors (block ∷ blocks) t ready = blocks-ready sectors blocks _ (next-ready sectors block t (t .deck .«is_over») refl ready)
+
+-- whatever the input is, and wherever the deck stands
+pub deck-ready : (sectors : ℕ) (input : List ℕ) (t : Table) → Ready sectors (headOf t) → Ready sectors (headOf (dealAll input t .leaves))
+deck-ready sectors input t ready = blocks-ready sectors (blocksOf input) t ready
+
+-- for any caller of `deal_chunk`, whatever the chunks are
+pub chunks-ready : (sectors : ℕ) (t : Table) (chunks : List (List ℕ)) (text : List ℕ) (end : Table) → Deals t chunks text end
+    → Ready sectors (headOf t) → Ready sectors (headOf end)
+chunks-ready sectors t chunks text end (no-more s) ready = ready
+chunks-ready sectors t chunks text end (a-chunk s chunk buffer r after flash store more rest last room m deals) ready =
+    let next = subst (λ (x : Table). Ready sectors (headOf x)) (sym (its-table s chunk buffer r after flash store room m)) (deck-ready sectors chunk s ready) in
+    chunks-ready sectors (table (r .deck) flash store) more rest last deals next
 
 -- the bench's own head: the Rust's default, a flash of 128 sectors and a store of any length
 pub fresh-ready : (flash store : List ℕ) → length flash ≡ 65536 → Ready 128 (head (freshState defaultConfig (length store)) flash store)

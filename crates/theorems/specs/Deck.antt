@@ -1,26 +1,24 @@
 -- A bench between blocks: the head, its counters, and the numbers that a block may be refused with.
-use Prim.Native.Nat.{ℕ, _+_, _%_, _^_}
+use Prim.Native.Nat.{ℕ, _%_, _^_}
 use mathlib.Core.List.{List, [], _∷_, _++_}
 use lib.ListN.{length}
 use Rattle.theorems.specs.Standing.{Standing, Sized}
-use Rattle.deck.specs.Deal.{Head}
-use Rattle.deck.specs.Dealing.{dealBlock}
+use Rattle.deck.specs.Deal.{Head, head}
 use mathlib.Core.Path.{_≡_}
 use Rattle.deck.specs.declared.bench.Bench.{Bench}
 use mathlib.Core.Bool.{true}
 use Rattle.promise.specs.Told.{Told, given, refused}
 use Rattle.operation_finish.specs.Reply.{Reply}
 use Rattle.deck_block.specs.Refusals.{isAmong, blockRefusals}
+use Rattle.deck_chunk.specs.Deck.{Table}
 
 pub record Ready (sectors : ℕ) (h : Head) : Type 0 where
   pub stands : Standing (h .device) (h .flash) (length (h .store)) sectors
   pub sized : Sized (h .device .config)
 
--- the head after a deck, whose first block has the tag after `tag`
-unfoldable pub afterDeck : ℕ → List (List ℕ) → Head → Head
-afterDeck tag [] h = h
-afterDeck tag (block ∷ blocks) h =
-    afterDeck ((tag + 1) % 2 ^ 32) blocks (dealBlock ((tag + 1) % 2 ^ 32) block h .leaves)
+-- the head of a deck, and what is lent to it
+abbrev pub headOf : Table → Head
+headOf t = head (t .deck .bench .device) (t .flash) (t .store)
 
 -- what the counters of a bench say after k blocks
 pub record Counts (k : ℕ) (bench : Bench) : Type 0 where
