@@ -1,13 +1,15 @@
 // Standard input in chunks of whole blocks, whatever the reads bring.
 use libc::EINTR;
 use libc::STDIN_FILENO;
+ghost use mathlib.Core.Path.{_≡_};
 ghost use Rattle.io.specs.Counts.{Counts};
+ghost use Rattle.bench.specs.Input.{toDeal};
 
 pub(crate) const BLOCK: usize = 512;
 
 pub(crate) const CHUNK: usize = 8192;
 
-const MOST_READS: usize = 1000;
+pub(crate) const MOST_TRIES: usize = 1000;
 
 // How many bytes of the chunk were read, and whether the input is over or could not be read on.
 pub(crate) struct Input {
@@ -23,10 +25,10 @@ pub(crate) fn within(n: usize, s: &[u8]) -> usize
     if n < s.len() { n } else { s.len() }
 }
 
-// A read that a signal interrupts is tried again, though not for ever.
+// A read that a signal interrupts is made again, though not for ever.
 fn read_some(rest: &mut [u8]) -> isize {
     let mut got = libc::read(STDIN_FILENO, rest);
-    for _ in 1..MOST_READS {
+    for _ in 1..MOST_TRIES {
         if got >= 0 || os::errno() != EINTR {
             return got;
         }
@@ -75,7 +77,9 @@ pub(crate) fn fill(chunk: &mut [u8; 8192]) -> Input {
 }
 
 // All that was read; where a read failed, its whole blocks, since the one behind them need not be the deck's last.
-pub(crate) fn to_deal(input: Input) -> usize {
+pub(crate) fn to_deal(input: Input) -> usize
+    ensures { λ r. ⌜ r ≡ toDeal (input .«has_failed») (input .count) ⌝ }
+{
     if input.has_failed {
         return input.count / BLOCK * BLOCK;
     }

@@ -1,15 +1,15 @@
 // Deals the deck on standard input to a stand-in head, and prints a line for each block.
 mod input;
+mod output;
 
 use deck::bench::Bench;
 use deck_chunk::ChunkAnswer;
 use deck_chunk::Deck;
-use input::Input;
 use input::fill;
 use input::to_deal;
 use input::within;
 use libc::STDERR_FILENO;
-use libc::STDOUT_FILENO;
+use output::write_lines;
 
 // The deck after a chunk, and whether there may be more of it.
 struct Turn {
@@ -27,17 +27,15 @@ fn say_unread(dealt: u64) {
     complain(b"; what was read behind them was not; deal the deck again from its first block\n");
 }
 
-// What went wrong with a chunk, if anything did, and whether there may be another one.
-fn report(input: Input, dealt: u64, is_written: bool) -> bool {
-    if input.has_failed {
-        say_unread(dealt);
-    }
+// Whether the lines were written; where they were not, what to do is said behind the reason.
+fn print_lines(lines: &[u8]) -> bool {
+    let is_written = write_lines(lines);
     if !is_written {
         complain(
             b"bench: not every line could be written; run it again with an output that takes them\n",
         );
     }
-    is_written && !input.is_over
+    is_written
 }
 
 // There is room for the lines of every block of a chunk, so that it is not refused.
@@ -52,6 +50,7 @@ fn deal_and_print(
     let next = step.deck;
     let answer = step.answer;
     let ChunkAnswer::Dealt(count) = answer else {
+        complain(b"bench: a chunk was refused by 20: this program has to be mended\n");
         return Turn {
             deck: next,
             goes_on: false,
@@ -61,7 +60,7 @@ fn deal_and_print(
     let used = within(count.bytes, text);
     Turn {
         deck: next,
-        goes_on: io::write_all(STDOUT_FILENO, &text[..used]),
+        goes_on: print_lines(&text[..used]),
     }
 }
 
@@ -77,9 +76,12 @@ fn deal_once(
     let count = within(to_deal(input), blocks);
     let turn = deal_and_print(deck, &blocks[..count], lines, flash, store);
     let next = turn.deck;
+    if input.has_failed {
+        say_unread(next.bench.number);
+    }
     Turn {
         deck: next,
-        goes_on: report(input, next.bench.number, turn.goes_on),
+        goes_on: turn.goes_on && !input.is_over,
     }
 }
 
@@ -92,10 +94,7 @@ fn deal_all(
     store: &mut [u8; 65536],
 ) {
     let mut turn = Turn {
-        deck: Deck {
-            bench,
-            is_over: false,
-        },
+        deck: Deck::new(bench),
         goes_on: true,
     };
     for _ in 0..u64::MAX {
