@@ -1,4 +1,4 @@
--- The flash at the start of a bench, by the answer that the code makes, and lent as many bytes as the default has.
+-- The flash at the start of a bench, by the answer that the code makes.
 use Prim.Native.Nat.{ℕ}
 use mathlib.Core.Path.{_≡_, refl, ap, _∙_}
 use mathlib.Core.List.{List}
