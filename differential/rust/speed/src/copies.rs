@@ -55,7 +55,7 @@ fn of_a_block(drive: fn(&[u8], &mut [u8]) -> u8) -> (u64, u64) {
 }
 
 fn main() {
-    let whole = of_a_block(|image, out| proved::upload_whole(0x471, false, image, out, u64::MAX));
+    let whole = of_a_block(|image, out| proved::upload_whole(0x471, false, image, out, u32::MAX));
     let filling = of_a_block(|image, out| proved::upload_parts(0x471, false, 4096, image, out, u64::MAX));
     let eight = of_a_block(|image, out| proved::upload_parts(0x471, false, 512, image, out, u64::MAX));
     println!("| call | copies | clears |\n|---|---|---|");
