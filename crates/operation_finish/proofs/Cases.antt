@@ -3,7 +3,7 @@ use Prim.Native.Nat.{ℕ, _-_, _<_, _≤_}
 use mathlib.Core.Path.{_≡_, refl, ap, sym, _∙_}
 use mathlib.Core.List.{List, []}
 use lib.ListN.{take}
-use borrow.Author.Tests.{lt-ltb, le-ltb, eq-eqb, ne-eqb}
+use borrow.Author.Tests.{eq-eqb, ne-eqb}
 use Rattle.promise.specs.Told.{Told, given, refused, andThen}
 use Rattle.promise.specs.Rules.{orRefuse}
 use Rattle.protocol_codes.specs.declared.Status.the-variants.{SUCCESS, FAILED}
@@ -24,7 +24,9 @@ use Rattle.protocol_reply.specs.declared.media.StorageAnswer.{StorageAnswer}
 use Rattle.operation_finish.specs.declared.Kind.{Kind}
 use Rattle.operation_finish.specs.Reply.{Reply, storage, moved, finishTold, blank, besideOf, FinishMeets}
 use Rattle.operation_finish.specs.Code.{failedWith}
-use Rattle.operation_finish.specs.Finish.{failed, failedStatus, tagMismatch, movedOf, sectorReply, storageReply, replyOf, judged, finishes}
+use Rattle.operation_finish.specs.Transfer.{whole, short}
+use Rattle.operation_finish.specs.Finish.{failed, failedStatus, tagMismatch, sectorsBy, sectorReply, storageReply, replyOf, judgedBy, judged, finishesBy, finishes}
+use Rattle.operation_finish.proofs.Transfers.{transfer-14, transfer-whole, transfer-short}
 
 -- a refusal with no values
 pub refused-14 : FinishMeets (failedWith ReplyParseFailure noSignature) (refused 14 [])
@@ -62,16 +64,20 @@ unread p told error failure m a h rest =
 
 module _ (length residue : ℕ) where
   pub sectors-14 : length < residue → sectorReply length residue ≡ refused 14 []
-  unfolding sectorReply movedOf orRefuse andThen
-  sectors-14 h = rw (lt-ltb length residue h)
+  unfolding sectorsBy andThen
+  sectors-14 h = rw (transfer-14 length residue h)
 
-  pub sectors-moved : residue ≤ length → sectorReply length residue ≡ given (moved (record { 0 = length - residue }))
-  unfolding sectorReply movedOf orRefuse andThen
-  sectors-moved h = rw (le-ltb length residue h)
+  pub sectors-whole : residue ≡ 0 → sectorReply length residue ≡ given (moved (whole length))
+  unfolding sectorsBy andThen
+  sectors-whole e = rw (transfer-whole length residue e)
+
+  pub sectors-short : 0 < residue → residue ≤ length → sectorReply length residue ≡ given (moved (short (length - residue) length))
+  unfolding sectorsBy andThen
+  sectors-short some h = rw (transfer-short length residue some h)
 
 -- a storage reply is what its first 4 bytes are read as
 pub storage-as : (a : StorageAnswer) (word inband : List ℕ) → word ≡ take 4 inband → storageTold a ≡ readStorage word
-    → storageReply inband ≡ andThen (storageTold a) (λ index. given (storage index))
+    → _≡_ {A = Told Reply} (storageReply inband) (andThen (storageTold a) (λ index. given (storage index)))
 unfolding storageReply
 storage-as a word inband h e = rw (e, h) refl
 
@@ -82,18 +88,18 @@ block-read a g t s h e = sym h ∙ rw e
 
 module _ (kind : Kind) (tag length : ℕ) (status inband : List ℕ) (s : CommandStatus) (e : readStatus status ≡ given s) where
   read : finishes kind tag length status inband ≡ judged kind tag length inband s
-  unfolding finishes atFinish andThen
+  unfolding finishesBy atFinish andThen
   read = rw e
 
   -- a failed status outranks a wrong tag, whatever the tags are
   pub finish-15 : s .status ≡ FAILED → finishes kind tag length status inband ≡ refused failedStatus []
-  unfolding judged orRefuse failed
+  unfolding judgedBy orRefuse failed
   finish-15 f = read ∙ rw f
 
   pub finish-10 : s .status ≡ SUCCESS → (s .tag ≡ tag → ⊥) → finishes kind tag length status inband ≡ refused tagMismatch []
-  unfolding judged orRefuse failed
+  unfolding judgedBy orRefuse failed
   finish-10 f h = read ∙ rw (f, ne-eqb (s .tag) tag h)
 
   pub finish-reply : s .status ≡ SUCCESS → s .tag ≡ tag → finishes kind tag length status inband ≡ replyOf kind length (s .residue) inband
-  unfolding judged orRefuse failed
+  unfolding judgedBy orRefuse failed
   finish-reply f h = read ∙ rw (f, eq-eqb (s .tag) tag h)

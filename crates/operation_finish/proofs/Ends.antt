@@ -21,8 +21,10 @@ use Rattle.protocol_reply.specs.Media.{placesSet, onlyPlace, readStorage}
 use Rattle.promise.specs.Bytes.{fromLow}
 use Rattle.operation_finish.specs.declared.Kind.{Kind}
 use Rattle.operation_finish.specs.declared.Kind.the-variants as kind
+use Rattle.operation_finish.specs.declared.SectorTransfer.{SectorTransfer}
 use Rattle.operation_finish.specs.Reply.{Reply, storage, moved}
-use Rattle.operation_finish.specs.Finish.{failed, movedOf, sectorReply, storageReply, replyOf, judged, finishes}
+use Rattle.operation_finish.specs.Transfer.{transferOf}
+use Rattle.operation_finish.specs.Finish.{failed, sectorsBy, sectorReply, storageReply, replyBy, replyOf, judgedBy, judged, finishesBy, finishes}
 
 abbrev Not13 : {A : Type 0} → Told A → Type 0
 Not13 t = number t ≡ 13 → ⊥
@@ -31,23 +33,23 @@ either : {A : Type 0} (test : Bool) (a b : Told A) → Not13 a → Not13 b → N
 either true a b f g = f
 either false a b f g = g
 
-moves-not : (short : Bool) (n : ℕ) → Not13 (andThen (pick short (refused 14 []) (given (record { 0 = n }))) (λ m. given (moved m)))
+moves-not : (above : Bool) (transfer : SectorTransfer) → Not13 {A = Reply} (andThen (pick above (refused 14 []) (given transfer)) (λ told. given (moved told)))
 unfolding andThen number
-moves-not true n e = omega arith
-moves-not false n e = omega arith
+moves-not true transfer e = omega arith
+moves-not false transfer e = omega arith
 
 sectors-not : (l residue : ℕ) → Not13 (sectorReply l residue)
-unfolding sectorReply movedOf orRefuse
+unfolding sectorsBy transferOf orRefuse
 sectors-not l residue = moves-not (ltb l residue) _
 
-place-not : (places : List ℕ) → Not13 (andThen (onlyPlace places) (λ index. given (storage index)))
+place-not : (places : List ℕ) → Not13 {A = Reply} (andThen (onlyPlace places) (λ index. given (storage index)))
 unfolding andThen onlyPlace number
 place-not [] e = omega arith
 place-not (p ∷ []) e = omega arith
 place-not (p ∷ q ∷ more) e = omega arith
 
 reply-not : (k : Kind) (l residue : ℕ) (inband : List ℕ) → Not13 (replyOf k l residue inband)
-unfolding replyOf number storageReply readStorage
+unfolding replyBy number storageReply readStorage
 reply-not kind.ChipInfo l residue inband e = omega arith
 reply-not kind.FlashId l residue inband e = omega arith
 reply-not kind.FlashInfo l residue inband e = omega arith
@@ -63,7 +65,7 @@ not-given n values h = h
 
 module _ (k : Kind) (tag l : ℕ) (status inband : List ℕ) (long : length status ≡ 13) where
   judged-not : (s : CommandStatus) → Not13 (judged k tag l inband s)
-  unfolding judged orRefuse
+  unfolding judgedBy orRefuse
   judged-not s =
       either (failed (s .status)) _ _ (not-given 15 [] (λ e. omega arith))
       (either (not (eqb (s .tag) tag)) _ _ (not-given 10 [] (λ e. omega arith)) (reply-not k l (s .residue) inband))
@@ -81,7 +83,7 @@ module _ (k : Kind) (tag l : ℕ) (status inband : List ℕ) (long : length stat
   enough = omega arith
 
   signed-not : (own : Bool) → same (take 4 status) usbs ≡ own → Not13 (finishes k tag l status inband)
-  unfolding finishes atFinish andThen
+  unfolding finishesBy atFinish andThen
   signed-not true e = rw (read-signed status enough e) (byte-not (statusOf (getD status 12 0)) refl)
   signed-not false e = rw (read-unsigned status enough e) (not-given 11 (take 4 status) (λ h. omega arith))
 

@@ -24,7 +24,7 @@ usbOf (flashInfo x) = usb.FlashInfo
 usbOf (capability x) = usb.Capability
 usbOf nothing = usb.Nothing
 usbOf (storage index) = usb.Storage index
-usbOf (moved m) = usb.Sectors m
+usbOf (moved transfer) = usb.Sectors transfer
 
 abbrev failureOf : ℕ → List ℕ → UsbOperationError
 failureOf n values =
@@ -44,7 +44,7 @@ answer-of (Replied usb.FlashInfo) b = refl
 answer-of (Replied usb.Capability) b = refl
 answer-of (Replied usb.Nothing) b = refl
 answer-of (Replied (usb.Storage index)) b = refl
-answer-of (Replied (usb.Sectors m)) b = refl
+answer-of (Replied (usb.Sectors transfer)) b = refl
 answer-of (Failed TagMismatch) b = refl
 answer-of (Failed InvalidStatusSignature) b = refl
 answer-of (Failed (InvalidStatusStatus byte)) b = refl

@@ -17,6 +17,8 @@ use Rattle.protocol_status.specs.declared.failure.UsbOperationError.the-variant
 use Rattle.protocol_status.proofs.Trips.{reads-back}
 use Rattle.protocol_reply.specs.declared.size.Transferred.{Transferred}
 use Rattle.operation_finish.specs.declared.Kind.the-variants as kind
+use Rattle.operation_finish.specs.declared.SectorTransfer.{SectorTransfer}
+use Rattle.operation_finish.specs.declared.SectorTransfer.the-variants.{Whole}
 use Rattle.operation_finish.specs.declared.UsbReply.{UsbReply}
 use Rattle.operation_finish.specs.declared.UsbReply.the-variants as usb
 use Rattle.operation_finish.specs.declared.FinishAnswer.{FinishAnswer}
@@ -24,8 +26,9 @@ use Rattle.operation_finish.specs.declared.FinishAnswer.the-variants.{Re
 use Rattle.operation_finish.specs.declared.Beside.{Beside}
 use Rattle.operation_finish.specs.declared.Finished.{Finished}
 use Rattle.operation_finish.specs.Reply.{Reply, moved, nothing, replyGiven, finishTold, blank, FinishMeets}
-use Rattle.operation_finish.specs.Finish.{replyOf, finishes}
-use Rattle.operation_finish.proofs.Cases.{sectors-moved, finish-15, finish-10, finish-reply}
+use Rattle.operation_finish.specs.Transfer.{short, transferValues}
+use Rattle.operation_finish.specs.Finish.{replyBy, finishes}
+use Rattle.operation_finish.proofs.Cases.{sectors-14, sectors-short, finish-15, finish-10, finish-reply}
 
 -- a status with tag 7 that leaves 512 bytes over, and its bytes
 abbrev ended : Status → CommandStatus
@@ -48,16 +51,51 @@ signature-dropped r e f =
     let z : _≡_ {A = ℕ} 1 0 = ap (λ (l : List ℕ). getD l 0 0) (sym (ap (λ (b : Beside). b .signature) e) ∙ f) in omega arith
 
 module _ (r : Finished) (inband : List ℕ) where
-  -- all bytes told as moved, whatever the status says is left over
-  pub residue-ignored : FinishMeets r (finishes kind.Read 7 1024 (sent SUCCESS) inband) → r .answer ≡ Replied (usb.Sectors (record { 0 = 1024 })) → ⊥
-  unfolding finishTold replyGiven replyOf
-  residue-ignored meets e =
-      let told : given (moved (record { 0 = 1024 })) ≡ given (moved (record { 0 = 512 })) =
+  -- what can be told of a read of 1,536 bytes whose status leaves 512 over
+  moved-1024 : (transfer : SectorTransfer) → FinishMeets r (finishes kind.Read 7 1536 (sent SUCCESS) inband) → r .answer ≡ Replied (usb.Sectors transfer)
+      → transferValues transfer ≡ 1024 ∷ 1536 ∷ []
+  unfolding finishTold replyGiven replyBy transferValues
+  moved-1024 transfer meets e =
+      let told : given (moved transfer) ≡ given (moved (short 1024 1536)) =
       ap (λ (a : FinishAnswer). finishTold a (r .beside)) (sym e) ∙ meets .tells
-      ∙ finish-reply kind.Read 7 1024 (sent SUCCESS) inband (ended SUCCESS) (read-sent SUCCESS) refl refl
-      ∙ sectors-moved 1024 512 (lit≤ tt) in
-      let same : _≡_ {A = Transferred} (record { 0 = 1024 }) (record { 0 = 512 }) = cc in
-      let z : _≡_ {A = ℕ} 1024 512 = ap (λ (m : Transferred). m .0) same in omega arith
+      ∙ finish-reply kind.Read 7 1536 (sent SUCCESS) inband (ended SUCCESS) (read-sent SUCCESS) refl refl
+      ∙ sectors-short 1536 512 (lit< tt) (lit≤ tt) in
+      let same : transfer ≡ short 1024 1536 = cc in ap transferValues same
+
+  -- a short transfer told as whole, with any count
+  pub short-as-whole : (count : Transferred) → FinishMeets r (finishes kind.Read 7 1536 (sent SUCCESS) inband)
+      → r .answer ≡ Replied (usb.Sectors (Whole count)) → ⊥
+  unfolding transferValues
+  short-as-whole count meets e =
+      let told : count .0 ∷ [] ≡ 1024 ∷ 1536 ∷ [] = moved-1024 (Whole count) meets e in
+      let z : _≡_ {A = ℕ} 0 1 = cc in omega arith
+
+  -- asked told as moved, and moved as asked
+  pub moved-and-asked-swapped : FinishMeets r (finishes kind.Read 7 1536 (sent SUCCESS) inband)
+      → r .answer ≡ Replied (usb.Sectors (short 1536 1024)) → ⊥
+  unfolding transferValues
+  moved-and-asked-swapped meets e =
+      let told : _≡_ {A = List ℕ} (1536 ∷ 1024 ∷ []) (1024 ∷ 1536 ∷ []) = moved-1024 (short 1536 1024) meets e in
+      let z : _≡_ {A = ℕ} 1536 1024 = cc in omega arith
+
+  -- the residue told as what was moved
+  pub residue-as-moved : FinishMeets r (finishes kind.Read 7 1536 (sent SUCCESS) inband)
+      → r .answer ≡ Replied (usb.Sectors (short 512 1536)) → ⊥
+  unfolding transferValues
+  residue-as-moved meets e =
+      let told : _≡_ {A = List ℕ} (512 ∷ 1536 ∷ []) (1024 ∷ 1536 ∷ []) = moved-1024 (short 512 1536) meets e in
+      let z : _≡_ {A = ℕ} 512 1024 = cc in omega arith
+
+  -- a residue above the length told as any transfer, short or whole
+  pub refusal-as-short : (transfer : SectorTransfer) → FinishMeets r (finishes kind.Write 7 256 (sent SUCCESS) inband)
+      → r .answer ≡ Replied (usb.Sectors transfer) → ⊥
+  unfolding finishTold replyGiven replyBy
+  refusal-as-short transfer meets e =
+      let told : given (moved transfer) ≡ refused 14 [] =
+      ap (λ (a : FinishAnswer). finishTold a (r .beside)) (sym e) ∙ meets .tells
+      ∙ finish-reply kind.Write 7 256 (sent SUCCESS) inband (ended SUCCESS) (read-sent SUCCESS) refl refl
+      ∙ sectors-14 256 512 (lit< tt) in
+      let z : _≡_ {A = ℕ} 0 1 = cc in omega arith
 
   -- a wrong tag told of a failed status: the failure comes first
   pub tag-before-failed : FinishMeets r (finishes kind.Nothing 8 0 (sent FAILED) inband) → r .answer ≡ Failed TagMismatch → ⊥
@@ -79,7 +117,7 @@ module _ (r : Finished) (inband : List ℕ) where
 
   -- a finish that always fails, whatever it tells
   pub always-refusing : (error : UsbOperationError) → FinishMeets r (finishes kind.Nothing 7 0 (sent SUCCESS) inband) → r .answer ≡ Failed error → ⊥
-  unfolding finishTold replyOf
+  unfolding finishTold replyBy
   always-refusing error meets e =
       let told : refused (failureNumber error) (failureValues error (r .beside .signature)) ≡ given nothing =
       ap (λ (a : FinishAnswer). finishTold a (r .beside)) (sym e) ∙ meets .tells

@@ -11,23 +11,33 @@ use Rattle.protocol_reply.specs.declared.info.ChipInfo.{ChipInfo}
 use Rattle.protocol_reply.specs.declared.info.FlashId.{FlashId}
 use Rattle.protocol_reply.specs.declared.info.FlashInfo.{FlashInfo}
 use Rattle.protocol_reply.specs.declared.flags.Capability.{Capability}
-use Rattle.protocol_reply.specs.declared.size.Transferred.{Transferred}
 use Rattle.operation_finish.specs.declared.UsbReply.{UsbReply}
 use Rattle.operation_finish.specs.declared.UsbReply.the-variants as usb
+use Rattle.operation_finish.specs.declared.ShortTransfer.{ShortTransfer}
+use Rattle.operation_finish.specs.declared.SectorTransfer.{SectorTransfer}
+use Rattle.operation_finish.specs.declared.SectorTransfer.the-variants.{Short}
 use Rattle.operation_finish.specs.declared.FinishAnswer.{FinishAnswer}
 use Rattle.operation_finish.specs.declared.FinishAnswer.the-variants.{Replied, Failed}
 use Rattle.operation_finish.specs.declared.Beside.{Beside}
 use Rattle.operation_finish.specs.declared.Finished.{Finished}
 
--- "Each kind keeps its own wrapper as in the Rust, and so does `Transferred`"
-pub data Reply : Type 0 where
-  chipInfo : ChipInfo → Reply
-  flashId : FlashId → Reply
-  flashInfo : FlashInfo → Reply
-  capability : Capability → Reply
-  nothing : Reply
-  storage : StorageIndex → Reply
-  moved : Transferred → Reply
+-- "Each kind keeps its own wrapper as in the Rust"; S is what is told of sectors
+pub data ReplyWith (S : Type 0) : Type 0 where
+  chipInfo : ChipInfo → ReplyWith S
+  flashId : FlashId → ReplyWith S
+  flashInfo : FlashInfo → ReplyWith S
+  capability : Capability → ReplyWith S
+  nothing : ReplyWith S
+  storage : StorageIndex → ReplyWith S
+  moved : S → ReplyWith S
+
+-- "whole with its count, or short with moved and asked, for sector operations"
+abbrev pub Reply : Type 0
+Reply = ReplyWith SectorTransfer
+
+-- what is told is no short transfer
+abbrev pub NotShort : Told Reply → Type 0
+NotShort told = (s : ShortTransfer) → told ≡ given (moved (Short s)) → ⊥
 
 unfoldable pub replyGiven : UsbReply → Beside → Reply
 replyGiven usb.ChipInfo b = chipInfo (b .«chip_info»)
@@ -36,7 +46,7 @@ replyGiven usb.FlashInfo b = flashInfo (b .«flash_info»)
 replyGiven usb.Capability b = capability (b .capability)
 replyGiven usb.Nothing b = nothing
 replyGiven (usb.Storage index) b = storage index
-replyGiven (usb.Sectors m) b = moved m
+replyGiven (usb.Sectors transfer) b = moved transfer
 
 -- number and values of every answer
 unfoldable pub finishTold : FinishAnswer → Beside → Told Reply
@@ -69,7 +79,7 @@ besideReply (flashInfo x) = besides noSignature noChipInfo noFlashId x noCapabil
 besideReply (capability x) = besides noSignature noChipInfo noFlashId noFlashInfo x
 besideReply nothing = blank noSignature
 besideReply (storage index) = blank noSignature
-besideReply (moved m) = blank noSignature
+besideReply (moved transfer) = blank noSignature
 
 -- "11 .. InvalidStatus: Signature"
 abbrev pub badSignature : ℕ

@@ -34,6 +34,18 @@ pub enum Kind {
     Write,
 }
 
+// Fewer bytes were moved than the command asked for.
+pub struct ShortTransfer {
+    pub moved: Transferred,
+    pub asked: Transferred,
+}
+
+// What became of the data of a sector operation: all of it was moved, or fewer bytes than asked.
+pub enum SectorTransfer {
+    Whole(Transferred),
+    Short(ShortTransfer),
+}
+
 // A reply. Where its wrapper holds an array, it stands beside.
 pub enum UsbReply {
     ChipInfo,
@@ -42,7 +54,7 @@ pub enum UsbReply {
     Capability,
     Nothing,
     Storage(StorageIndex),
-    Sectors(Transferred),
+    Sectors(SectorTransfer),
 }
 
 pub enum FinishAnswer {
@@ -195,7 +207,13 @@ fn sectors_of(length: u32, residue: u32) -> Finished
     if length < residue {
         return failed(UsbOperationError::ReplyParseFailure, [0, 0, 0, 0]);
     }
-    replied(UsbReply::Sectors(Transferred(length - residue)))
+    let asked = Transferred(length);
+    if residue == 0 {
+        return replied(UsbReply::Sectors(SectorTransfer::Whole(asked)));
+    }
+    let moved = Transferred(length - residue);
+    let short = ShortTransfer { moved, asked };
+    replied(UsbReply::Sectors(SectorTransfer::Short(short)))
 }
 
 // The answer of an operation that went well.

@@ -3,13 +3,13 @@ use mathlib.Core.Path.{_≡_}
 use borrow.Author.Needs.{needs}
 use Rattle.promise.specs.Told.{given}
 use Rattle.protocol_status.specs.StatusBytes.{readStatus}
-use Rattle.operation_finish.specs.Finish.{judged, finishes}
+use Rattle.operation_finish.specs.Finish.{judged, finishesBy}
 use Rattle.operation_finish.proofs.Cases.{unread, block-read, refused-15, refused-10, finish-15, finish-10, finish-reply}
 use Rattle.operation_finish.proofs.finish_of.Statement.{statement}
 use Rattle.operation_finish.proofs.finish_of.Tie as tie
 
 returns : tie.Need-returns
-unfolding finishes
+unfolding finishesBy
 returns c =
     let s = c .before .before .before .before .before .before in
     let a = s .before .before .args in
