@@ -35,7 +35,7 @@ readOf asked.Sectors n = step.ReadData n
 readOf asked.Status n = step.ReadStatus n
 
 -- the answer that tells this
-abbrev stepFor : Told Asks → UsbStep
+abbrev pub stepFor : Told Asks → UsbStep
 stepFor (given writesCommand) = step.WriteCommand
 stepFor (given (writesData n)) = step.WriteData n
 stepFor (given (reads a n)) = readOf a n
@@ -52,7 +52,7 @@ finished-for (Failed InvalidStatusLength) b = refl
 finished-for (Failed ReplyParseFailure) b = refl
 finished-for (Failed FailedStatus) b = refl
 
-step-for : (x : UsbStep) (b : Beside) → stepFor (stepTold x b) ≡ x
+pub step-for : (x : UsbStep) (b : Beside) → stepFor (stepTold x b) ≡ x
 unfolding stepTold
 step-for step.WriteCommand b = refl
 step-for (step.WriteData n) b = refl
