@@ -4,12 +4,20 @@ use mathlib.Core.Path.{_≡_, ap, sym, _∙_}
 use mathlib.Core.List.{List, [], _∷_}
 use native.Mathlib.Omega.{arith}
 use lib.ListN.{getD}
-use Rattle.promise.specs.Told.{number}
-use Rattle.operation_finish.specs.Reply.{blank}
+use Rattle.promise.specs.Told.{given, number}
+use Rattle.protocol_reply.specs.declared.size.Transferred.{Transferred}
+use Rattle.operation_finish.specs.Transfer.{short, transferValues}
+use Rattle.operation_finish.specs.Reply.{moved, replyGiven, finishTold, blank}
+use Rattle.operation_finish.specs.declared.SectorTransfer.{SectorTransfer}
+use Rattle.operation_finish.specs.declared.SectorTransfer.the-variants.{Whole}
 use Rattle.operation_finish.specs.declared.UsbReply.{UsbReply}
+use Rattle.operation_finish.specs.declared.UsbReply.the-variants as usb
+use Rattle.operation_finish.specs.declared.FinishAnswer.the-variants.{Replied}
 use Rattle.operation_finish.specs.declared.Beside.{Beside}
 use Rattle.promise.specs.Run.{endTold}
 use Rattle.mock.specs.declared.device.MockState.{MockState}
+use Rattle.run_turn.specs.declared.Stop.the-variants as stop
+use Rattle.run_turn.specs.Answers.{stopTold}
 use Rattle.run_operation.specs.declared.RunAnswer.{RunAnswer}
 use Rattle.run_operation.specs.declared.RunAnswer.the-variants as run-answer
 use Rattle.run_operation.specs.declared.UsbRun.{UsbRun}
@@ -40,6 +48,29 @@ unfolding verdictTold numbered endTold run.answerEnd
 out-of-steps-done reply b d ran e m =
     let told = m .tells ∙ ap (λ (a : RunAnswer). numbered (endTold (run.answerEnd a (ran .beside)))) e in
     let z : _≡_ {A = ℕ} 0 1 = cc told in omega arith
+
+-- a run that moved 512 bytes of 1,024
+module _ (r : Dealt) (ran : UsbRun) (e : ran .answer ≡ run-answer.Ended (stop.Finished (Replied (usb.Sectors (short 512 1024))))) (m : OperatedMeets r ran) where
+  told-512 : (transfer : SectorTransfer) → r .verdict ≡ Done (usb.Sectors transfer) → transferValues transfer ≡ 512 ∷ 1024 ∷ []
+  unfolding verdictTold replyGiven numbered endTold run.answerEnd stopTold finishTold transferValues
+  told-512 transfer v =
+      let told : given (moved transfer) ≡ given (moved (short 512 1024)) =
+      ap (λ (x : Verdict). verdictTold x (r .beside)) (sym v) ∙ m .tells ∙ ap (λ (a : RunAnswer). numbered (endTold (run.answerEnd a (ran .beside)))) e in
+      let same : transfer ≡ short 512 1024 = cc in ap transferValues same
+
+  -- told as whole, with any count
+  pub short-run-as-whole : (count : Transferred) → r .verdict ≡ Done (usb.Sectors (Whole count)) → ⊥
+  unfolding transferValues
+  short-run-as-whole count v =
+      let told : _≡_ {A = List ℕ} (count .0 ∷ []) (512 ∷ 1024 ∷ []) = told-512 (Whole count) v in
+      let z : _≡_ {A = ℕ} 0 1 = cc in omega arith
+
+  -- and with its counts in each other's place
+  pub short-run-swapped : r .verdict ≡ Done (usb.Sectors (short 1024 512)) → ⊥
+  unfolding transferValues
+  short-run-swapped v =
+      let told : _≡_ {A = List ℕ} (1024 ∷ 512 ∷ []) (512 ∷ 1024 ∷ []) = told-512 (short 1024 512) v in
+      let z : _≡_ {A = ℕ} 1024 512 = cc in omega arith
 
 -- bytes left beside a refusal
 pub bytes-beside-a-refusal : (n : ℕ) (d : MockState) (ran : UsbRun) → OperatedMeets (dealt (Refused n) others d) ran → ⊥

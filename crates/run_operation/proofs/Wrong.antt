@@ -20,7 +20,7 @@ use Rattle.operation_finish.specs.declared.FinishAnswer.the-variants.{Replied}
 use Rattle.operation_finish.specs.declared.Kind.the-variants as kind
 use Rattle.operation_finish.specs.declared.UsbReply.the-variants as usb
 use Rattle.operation_finish.specs.Reply.{Reply, nothing, finishTold}
-use Rattle.operation_finish.specs.Finish.{replyOf}
+use Rattle.operation_finish.specs.Finish.{replyBy}
 use Rattle.operation_finish.proofs.Cases.{finish-reply}
 use Rattle.operation_finish.proofs.Wrong.{sent, read-sent}
 use Rattle.operation.specs.declared.steps.UsbOperation.{UsbOperation}
@@ -47,7 +47,7 @@ abbrev ofSector : UsbOperation
 ofSector = fresh kind.Read (readLbaCommand 7 0 1)
 
 erased-told : toldAt erased ≡ given nothing
-unfolding replyOf
+unfolding replyBy
 erased-told = finish-reply kind.Nothing 7 0 (sent SUCCESS) (erased .«data») _ (read-sent SUCCESS) refl refl
 
 -- a run that takes a step more than its budget, at any input
