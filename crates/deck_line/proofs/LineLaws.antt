@@ -11,6 +11,8 @@ use lib.Dec.{ltb}
 use borrow.Author.Tests.{lt-ltb, le-ltb}
 use Rattle.promise.specs.Rules.{pick}
 use Rattle.promise.specs.Told.{Told, given, refused, number}
+use Rattle.operation_finish.specs.declared.SectorTransfer.{SectorTransfer}
+use Rattle.operation_finish.specs.declared.SectorTransfer.the-variants.{Whole, Short}
 use Rattle.operation_finish.specs.Reply.{Reply, chipInfo, flashId, flashInfo, capability, nothing, storage, moved, replyGiven}
 use Rattle.operation_finish.specs.declared.UsbReply.{UsbReply}
 use Rattle.operation_finish.specs.declared.Beside.{Beside}
@@ -18,7 +20,7 @@ use Rattle.deck.specs.Verdict.{verdictTold}
 use Rattle.deck.specs.declared.verdict.Verdict.{Verdict}
 use Rattle.deck_line.specs.declared.Line.{Line}
 use Rattle.deck_line.specs.Digits.{digit, decimal, hex}
-use Rattle.deck_line.specs.Line.{space, dash, lineFeed, valueText, toldText, lineText, line, Sized, ToldSized}
+use Rattle.deck_line.specs.Line.{space, dash, slash, lineFeed, valueBy, toldBy, transferText, valueText, toldText, lineText, line, TransferSized, Sized, ToldSized}
 use Rattle.deck_line.specs.Code.{putOn, putAll, PutShort}
 use Rattle.deck_line.proofs.DigitLaws.{below-ten, from-ten, decimal-length, hex-length}
 
@@ -72,7 +74,10 @@ pub hex-past : (l : Line) (i : ℕ) (bs : List ℕ) → length bs ≤ i → putA
 unfolding putAll hex
 hex-past l i bs h = ap (λ (x : List ℕ). putAll l (hex x)) (drop-of-length-le bs h)
 
--- at a reply or a verdict that is known
+-- at a transfer, a reply or a verdict that is known
+pub at-transfer : (r l : Line) {transfer known : SectorTransfer} → transfer ≡ known → PutShort r l (transferText known) → PutShort r l (transferText transfer)
+at-transfer r l e = subst (λ (k : SectorTransfer). PutShort r l (transferText k)) (sym e)
+
 pub at-reply : (r l : Line) (b : Beside) {reply known : UsbReply} → reply ≡ known → PutShort r l (valueText (replyGiven known b))
     → PutShort r l (valueText (replyGiven reply b))
 at-reply r l b e = subst (λ (k : UsbReply). PutShort r l (valueText (replyGiven k b))) (sym e)
@@ -148,9 +153,28 @@ digits-10 n h = decimal-length 9 n (omega arith)
 pub digits-3 : (n : ℕ) → n < 2 ^ 8 → length (decimal n) ≤ 3
 digits-3 n h = decimal-length 2 n (omega arith)
 
+-- a byte, or a text, put after what was put on a line
+then-byte : (l : Line) {a r : Line} (text : List ℕ) (byte : ℕ) → a ≡ putAll l text → r ≡ putOn a byte → r ≡ putAll l (text ++ (byte ∷ []))
+then-byte l text byte before put = put ∙ ap (λ (x : Line). putOn x byte) before ∙ behind l text byte
+
+then-text : (l : Line) {a r : Line} (text rest : List ℕ) → a ≡ putAll l text → r ≡ putAll a rest → r ≡ putAll l (text ++ rest)
+then-text l text rest before put = put ∙ ap (λ (x : Line). putAll x rest) before ∙ sym (all-append l text rest)
+
 -- a count of 32 bits
 pub put-count : (r l : Line) (n : ℕ) → n < 2 ^ 32 → r ≡ putAll l (decimal n) → PutShort r l (decimal n)
 put-count r l n h e = record { all = e; short = omega (arith, digits-10 n h) }
+
+-- two of them, with a slash between
+counts-short : (m n : ℕ) → m < 2 ^ 32 → n < 2 ^ 32 → length (decimal m ++ slash ++ decimal n) ≤ 21
+counts-short m n hm hn =
+    omega (arith, digits-10 m hm, digits-10 n hn, length-append (decimal m ++ slash) (decimal n), length-append (decimal m) slash)
+
+pub put-counts : (l : Line) {a b r : Line} (m n : ℕ) → m < 2 ^ 32 → n < 2 ^ 32 → a ≡ putAll l (decimal m) → b ≡ putOn a 47 → r ≡ putAll b (decimal n)
+    → PutShort r l (decimal m ++ slash ++ decimal n)
+put-counts l m n hm hn first second third = record {
+  all = then-text l (decimal m ++ slash) (decimal n) (then-byte l (decimal m) 47 first second) third;
+  short = omega (arith, counts-short m n hm hn);
+}
 
 -- no line is longer than 58 bytes
 pub line-short : (n : ℕ) (told : Told Reply) → n < 2 ^ 64 → number told < 2 ^ 8 → length (toldText told) ≤ 32 → length (lineText n told) ≤ 58
@@ -171,27 +195,25 @@ line-short n told wide small value =
     )
 
 -- the same for whatever is told
+transfer-short : (transfer : SectorTransfer) → TransferSized transfer → length (transferText transfer) ≤ 32
+unfolding transferText
+transfer-short (Whole count) h = omega (arith, digits-10 (count .0) h)
+transfer-short (Short s) h = omega (arith, counts-short (s .moved .0) (s .asked .0) (h .0) (h .1))
+
 value-short : (reply : Reply) → Sized reply → length (valueText reply) ≤ 32
-unfolding valueText
+unfolding valueBy
 value-short (chipInfo x) h = omega (arith, hex-length (x .0))
 value-short (flashId x) h = omega (arith, hex-length (x .0))
 value-short (flashInfo x) h = omega (arith, hex-length (x .0))
 value-short (capability x) h = omega (arith, hex-length (x .0))
 value-short nothing h = omega arith
 value-short (storage index) h = omega arith
-value-short (moved count) h = omega (arith, digits-10 (count .0) h)
+value-short (moved transfer) h = transfer-short transfer h
 
 pub told-short : (n : ℕ) (told : Told Reply) → n < 2 ^ 64 → ToldSized told → length (lineText n told) ≤ 58
-unfolding toldText number
+unfolding toldBy number
 told-short n (given reply) wide h = line-short n (given reply) wide (omega arith) (value-short reply h)
 told-short n (refused k values) wide h = line-short n (refused k values) wide h (omega arith)
-
--- a byte, or a text, put after what was put on a line
-then-byte : (l : Line) {a r : Line} (text : List ℕ) (byte : ℕ) → a ≡ putAll l text → r ≡ putOn a byte → r ≡ putAll l (text ++ (byte ∷ []))
-then-byte l text byte before put = put ∙ ap (λ (x : Line). putOn x byte) before ∙ behind l text byte
-
-then-text : (l : Line) {a r : Line} (text rest : List ℕ) → a ≡ putAll l text → r ≡ putAll a rest → r ≡ putAll l (text ++ rest)
-then-text l text rest before put = put ∙ ap (λ (x : Line). putAll x rest) before ∙ sym (all-append l text rest)
 
 -- the parts of a line, one after the other
 pub line-made : (n k : ℕ) (told : Told Reply) {a b d e f r : Line} → n < 2 ^ 64 → k < 2 ^ 8 → k ≡ number told → a ≡ putAll (line []) (decimal n)

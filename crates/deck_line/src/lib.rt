@@ -1,13 +1,14 @@
 // The line that is printed for a block: its number, 0 or the refusal, and the value. Nothing is lent: a line is made by value.
 use deck::verdict::Verdict;
 use operation_finish::Beside;
+use operation_finish::SectorTransfer;
 use operation_finish::UsbReply;
 ghost use mathlib.Core.Path.{_≡_};
 ghost use Prim.Native.Nat.{_<_};
 ghost use Rattle.operation_finish.specs.Reply.{replyGiven};
 ghost use Rattle.deck.specs.Verdict.{verdictTold};
 ghost use Rattle.deck_line.specs.Digits.{digit, decimal, hex};
-ghost use Rattle.deck_line.specs.Line.{valueText, toldText, lineText, line};
+ghost use Rattle.deck_line.specs.Line.{transferText, valueText, toldText, lineText, line};
 ghost use Rattle.deck_line.specs.Code.{putOn, putAll, PutShort};
 
 // Two numbers of at most 20 and 3 digits, a value of at most 32, two spaces and a line feed: no text is longer than 58 bytes.
@@ -68,7 +69,22 @@ fn put_hex(start: Line, bytes: &[u8]) -> Line
     longer
 }
 
-// Bytes for chip info, flash id, flash info and capability, a count for sectors, and `-` for the others.
+// Bytes moved; and where the transfer was short, a slash and bytes asked.
+fn put_transfer(start: Line, transfer: SectorTransfer) -> Line
+    ensures { λ r. ⌜ PutShort r start (transferText transfer) ⌝ }
+{
+    match transfer {
+        SectorTransfer::Whole(count) => put_decimal(start, count.0 as u64),
+        SectorTransfer::Short(short) => {
+            let moved = short.moved;
+            let asked = short.asked;
+            let slashed = put(put_decimal(start, moved.0 as u64), b'/');
+            put_decimal(slashed, asked.0 as u64)
+        }
+    }
+}
+
+// Bytes for chip info, flash id, flash info and capability, counts for sectors, and `-` for the others.
 fn put_value(start: Line, reply: UsbReply, beside: Beside) -> Line
     ensures { λ r. ⌜ PutShort r start (valueText (replyGiven reply beside)) ⌝ }
 {
@@ -93,7 +109,7 @@ fn put_value(start: Line, reply: UsbReply, beside: Beside) -> Line
             let bytes = capability.0;
             put_hex(start, &bytes)
         }
-        UsbReply::Sectors(moved) => put_decimal(start, moved.0 as u64),
+        UsbReply::Sectors(transfer) => put_transfer(start, transfer),
         UsbReply::Nothing => put(start, b'-'),
         UsbReply::Storage(_) => put(start, b'-'),
     }

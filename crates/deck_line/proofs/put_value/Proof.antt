@@ -4,8 +4,8 @@ use mathlib.Core.Path.{_≡_}
 use lib.ListN.{length}
 use borrow.Author.Needs.{needs}
 use Rattle.operation_finish.specs.Reply.{replyGiven}
-use Rattle.deck_line.specs.Line.{valueText}
-use Rattle.deck_line.proofs.LineLaws.{at-reply, put-bytes, put-count, put-dash}
+use Rattle.deck_line.specs.Line.{valueBy}
+use Rattle.deck_line.proofs.LineLaws.{at-reply, put-bytes, put-dash}
 use Rattle.deck_line.proofs.put_value.Statement.{statement}
 use Rattle.deck_line.proofs.put_value.Tie as tie
 
@@ -23,7 +23,7 @@ capability : (s : tie.Start) → length (s .args .beside .capability .0) ≡ 8
 capability s = search needs
 
 returns : tie.Need-returns
-unfolding valueText replyGiven
+unfolding valueBy replyGiven
 returns c =
     let s = c .before .before .before .before .before .before in
     let whole = chip-info s in
@@ -31,7 +31,7 @@ returns c =
     (put-bytes _ (s .args .start) (s .args .beside .«chip_info» .0) (omega arith) (c .put-hex .ensures))
 
 returns-2 : tie.Need-returns-2
-unfolding valueText replyGiven
+unfolding valueBy replyGiven
 returns-2 c =
     let s = c .before .before .before .before .before .before in
     let whole = flash-id s in
@@ -39,7 +39,7 @@ returns-2 c =
     (put-bytes _ (s .args .start) (s .args .beside .«flash_id» .0) (omega arith) (c .put-hex2 .ensures))
 
 returns-3 : tie.Need-returns-3
-unfolding valueText replyGiven
+unfolding valueBy replyGiven
 returns-3 c =
     let s = c .before .before .before .before .before .before in
     let whole = flash-info s in
@@ -47,7 +47,7 @@ returns-3 c =
     (put-bytes _ (s .args .start) (s .args .beside .«flash_info» .0) (omega arith) (c .put-hex3 .ensures))
 
 returns-4 : tie.Need-returns-4
-unfolding valueText replyGiven
+unfolding valueBy replyGiven
 returns-4 c =
     let s = c .before .before .before .before .before .before in
     let whole = capability s in
@@ -55,20 +55,19 @@ returns-4 c =
     (put-bytes _ (s .args .start) (s .args .beside .capability .0) (omega arith) (c .put-hex4 .ensures))
 
 returns-5 : tie.Need-returns-5
-unfolding valueText replyGiven
+unfolding valueBy replyGiven
 returns-5 c =
-    let a = c .before .before .before .before .before .args in
-    let moved = c .before .before .before .reply .given in
-    at-reply _ (a .start) (a .beside) (moved .1) (put-count _ (a .start) _ (search needs) (c .put-decimal .ensures))
+    let a = c .before .before .before .before .args in
+    at-reply _ (a .start) (a .beside) (c .before .before .reply .given .1) (c .put-transfer .ensures)
 
 returns-6 : tie.Need-returns-6
-unfolding valueText replyGiven
+unfolding valueBy replyGiven
 returns-6 c =
     let a = c .before .before .before .args in
     at-reply _ (a .start) (a .beside) (c .before .enum-told5 .given .1) (put-dash _ (a .start) (c .put .ensures))
 
 returns-7 : tie.Need-returns-7
-unfolding valueText replyGiven
+unfolding valueBy replyGiven
 returns-7 c =
     let a = c .before .before .before .args in
     at-reply _ (a .start) (a .beside) (c .before .enum-told6 .given .1) (put-dash _ (a .start) (c .put2 .ensures))
@@ -89,7 +88,6 @@ put-value-spec =
     (λ c. search needs)
     (λ c. search needs)
     (λ c κs. search needs)
-    (λ c. search needs)
     (λ c. search needs)
     (λ c κs. search needs)
     (λ c. search needs)
