@@ -1,5 +1,5 @@
-// What C and Rust link: the proved functions over numbers and byte slices, each with the contract of the one that it calls. `commands` has
-// commands as numbers, `sectors` sector operations, `uploads` uploads to their end, `driving` the loops of an upload.
+// What C and Rust link: the proved functions over numbers, byte slices and a pair of counts, each with the contract of the one that it calls.
+// `commands` has commands as numbers, `sectors` sector operations, `uploads` uploads to their end, `driving` the loops of an upload.
 pub mod commands;
 mod driving;
 pub mod sectors;
@@ -77,18 +77,30 @@ pub extern "C" fn otterarch_command_read(bytes: &[u8]) -> u64
     crate::commands::read_command(bytes)
 }
 
-// Sectors of the flash from `first` on into all of `data`: 0 or the number of the refusal.
+// Sectors of the flash from `first` on into all of `data`: 0, or the number of the refusal.
+// At 0 `counts` has how many bytes were moved, then how many were asked for; at a refusal it is as it was.
 #[no_mangle]
-pub extern "C" fn otterarch_read_sectors(first: u32, flash: &mut [u8], data: &mut [u8]) -> u8
-    ensures { λ r. ⌜ SectorsMeet r (now (flash .exit)) (now («data» .exit)) (readSectors first (now (flash .entry)) (now («data» .entry))) ⌝ }
+pub extern "C" fn otterarch_read_sectors(
+    first: u32,
+    flash: &mut [u8],
+    data: &mut [u8],
+    counts: &mut [u32; 2],
+) -> u8
+    ensures { λ r. ⌜ SectorsMeet r (now (flash .exit)) (now («data» .exit)) (now (counts .exit)) (readSectors first (now (flash .entry)) (now («data» .entry)) (now (counts .entry))) ⌝ }
 {
-    crate::sectors::read_sectors(first, flash, data)
+    crate::sectors::read_sectors(first, flash, data, counts)
 }
 
-// All of `data` to the flash from sector `first` on: 0 or the number of the refusal.
+// All of `data` to the flash from sector `first` on: 0, or the number of the refusal.
+// At 0 `counts` has how many bytes were moved, then how many were asked for; at a refusal it is as it was.
 #[no_mangle]
-pub extern "C" fn otterarch_write_sectors(first: u32, flash: &mut [u8], data: &[u8]) -> u8
-    ensures { λ r. ⌜ SectorsMeet r (now (flash .exit)) (now («data» .entry)) (writeSectors first (now (flash .entry)) (now («data» .entry))) ⌝ }
+pub extern "C" fn otterarch_write_sectors(
+    first: u32,
+    flash: &mut [u8],
+    data: &[u8],
+    counts: &mut [u32; 2],
+) -> u8
+    ensures { λ r. ⌜ SectorsMeet r (now (flash .exit)) (now («data» .entry)) (now (counts .exit)) (writeSectors first (now (flash .entry)) (now («data» .entry)) (now (counts .entry))) ⌝ }
 {
-    crate::sectors::write_sectors(first, flash, data)
+    crate::sectors::write_sectors(first, flash, data, counts)
 }

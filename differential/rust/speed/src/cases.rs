@@ -185,13 +185,20 @@ fn sector_times(sectors: usize) -> usize {
     (1 << 16) / (sectors + 31) + 1
 }
 
+/// All of `length` bytes were moved, and the Rust, which tells how many were moved alone, says the same.
+fn assert_whole(counts: [u32; 2], transferred: u32, length: usize) {
+    assert_eq!(counts, [length as u32; 2]);
+    assert_eq!(counts[0], transferred);
+}
+
 fn read(bench: &Rc<RefCell<Bench>>, sectors: usize) -> Case {
     let (a, b) = (bench.clone(), bench.clone());
     let length = sectors * 512;
     let (mut ours, mut theirs) = (vec![0; length], vec![1; length]);
     let mut both = bench.borrow_mut();
-    assert_eq!(proved::read_sectors(FIRST, &mut both.flash, &mut ours), 0);
-    assert_eq!(original::read_sectors(&mut both.mock, FIRST, &mut theirs), length as u32);
+    let mut counts = [0; 2];
+    assert_eq!(proved::read_sectors(FIRST, &mut both.flash, &mut ours, &mut counts), 0);
+    assert_whole(counts, original::read_sectors(&mut both.mock, FIRST, &mut theirs), length);
     assert!(ours == theirs);
     Case {
         group: "sector read",
@@ -200,7 +207,12 @@ fn read(bench: &Rc<RefCell<Bench>>, sectors: usize) -> Case {
         times: sector_times(sectors),
         counted: sectors == 1,
         proved: Box::new(move || {
-            proved::read_sectors(FIRST, &mut a.borrow_mut().flash, black_box(&mut ours));
+            proved::read_sectors(
+                FIRST,
+                &mut a.borrow_mut().flash,
+                black_box(&mut ours),
+                black_box(&mut counts),
+            );
         }),
         original: Box::new(move || {
             original::read_sectors(&mut b.borrow_mut().mock, FIRST, black_box(&mut theirs));
@@ -215,8 +227,9 @@ fn write(bench: &Rc<RefCell<Bench>>, sectors: usize) -> Case {
     let data = noise(length + 1)[1..].to_vec();
     let again = data.clone();
     let mut both = bench.borrow_mut();
-    assert_eq!(proved::write_sectors(FIRST, &mut both.flash, &data), 0);
-    assert_eq!(original::write_sectors(&mut both.mock, FIRST, &data), length as u32);
+    let mut counts = [0; 2];
+    assert_eq!(proved::write_sectors(FIRST, &mut both.flash, &data, &mut counts), 0);
+    assert_whole(counts, original::write_sectors(&mut both.mock, FIRST, &data), length);
     assert!(both.flash == both.mock.flash());
     Case {
         group: "sector write",
@@ -225,7 +238,7 @@ fn write(bench: &Rc<RefCell<Bench>>, sectors: usize) -> Case {
         times: sector_times(sectors),
         counted: sectors == 1,
         proved: Box::new(move || {
-            proved::write_sectors(FIRST, &mut a.borrow_mut().flash, black_box(&data));
+            proved::write_sectors(FIRST, &mut a.borrow_mut().flash, black_box(&data), black_box(&mut counts));
         }),
         original: Box::new(move || {
             original::write_sectors(&mut b.borrow_mut().mock, FIRST, black_box(&again));

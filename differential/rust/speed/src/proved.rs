@@ -27,9 +27,22 @@ unsafe extern "C" {
     ) -> u8;
     fn otterarch_command_write(tag: u32, first: u32, sectors: u32, out: *mut u8, room: usize) -> u8;
     fn otterarch_command_read(bytes: *const u8, length: usize) -> u64;
-    fn otterarch_read_sectors(first: u32, flash: *mut u8, size: usize, data: *mut u8, length: usize) -> u8;
-    fn otterarch_write_sectors(first: u32, flash: *mut u8, size: usize, data: *const u8, length: usize)
-    -> u8;
+    fn otterarch_read_sectors(
+        first: u32,
+        flash: *mut u8,
+        size: usize,
+        data: *mut u8,
+        length: usize,
+        counts: *mut u32,
+    ) -> u8;
+    fn otterarch_write_sectors(
+        first: u32,
+        flash: *mut u8,
+        size: usize,
+        data: *const u8,
+        length: usize,
+        counts: *mut u32,
+    ) -> u8;
 }
 
 pub fn update(crc: u16, bytes: &[u8]) -> u16 {
@@ -60,12 +73,13 @@ pub fn command_read(bytes: &[u8]) -> u64 {
     unsafe { otterarch_command_read(bytes.as_ptr(), bytes.len()) }
 }
 
-pub fn read_sectors(first: u32, flash: &mut [u8], data: &mut [u8]) -> u8 {
-    let (size, flash) = (flash.len(), flash.as_mut_ptr());
-    unsafe { otterarch_read_sectors(first, flash, size, data.as_mut_ptr(), data.len()) }
+/// `counts` are the bytes that were moved and those that were asked for.
+pub fn read_sectors(first: u32, flash: &mut [u8], data: &mut [u8], counts: &mut [u32; 2]) -> u8 {
+    let (size, flash, n) = (flash.len(), flash.as_mut_ptr(), data.len());
+    unsafe { otterarch_read_sectors(first, flash, size, data.as_mut_ptr(), n, counts.as_mut_ptr()) }
 }
 
-pub fn write_sectors(first: u32, flash: &mut [u8], data: &[u8]) -> u8 {
-    let (size, flash) = (flash.len(), flash.as_mut_ptr());
-    unsafe { otterarch_write_sectors(first, flash, size, data.as_ptr(), data.len()) }
+pub fn write_sectors(first: u32, flash: &mut [u8], data: &[u8], counts: &mut [u32; 2]) -> u8 {
+    let (size, flash, n) = (flash.len(), flash.as_mut_ptr(), data.len());
+    unsafe { otterarch_write_sectors(first, flash, size, data.as_ptr(), n, counts.as_mut_ptr()) }
 }

@@ -9,13 +9,14 @@ use Rattle.ffi.proofs.sectors.write_on.Tie as tie
 
 returns : tie.Need-returns
 returns c =
-    let a = c .before .before .before .before .before .before .before .before .before .before .args in
-    let d = c .before .before .before .before .before .before .before .fresh-device in
-    let run = c .before .before .before .before .run-whole-write in
-    let v = c .before .operated in
+    let start = c .before .before .before .before .before .before .before .before .before in
+    let a = start .before .before .before .args in
+    let run = c .before .before .before .before .before .before .run-whole-write in
+    let v = c .before .before .before .operated in
+    let d = start .fresh-device in
     let bytes = lentTo (a .operation .kind) (now (a .«data»)) [] in
-    ran-at (a .operation) (d .result) (now (a .flash)) bytes (d .ensures) (run .result) (v .result) (c .number .result) (run .last .1 .1 .0) bytes (run .ensures) (v .ensures)
-    (c .number .ensures (v .result .beside))
+    ran-at (a .operation) (d .result) (now (a .flash)) bytes (now (a .counts)) (d .ensures) (run .result) (v .result) (c .number .result) (run .last .1 .1 .0) bytes
+    (c .before .counts-after .result) (run .ensures) (v .ensures) (c .before .counts-after .ensures (v .result .beside)) (c .number .ensures (v .result .beside))
 
 pub write-on-spec : {M : Type 1} → statement M
-write-on-spec = tie.close (tie.spec (λ c κs. search needs) (λ c. search needs) (λ c κs. search needs) (λ c κs. search needs) (λ c κs. search needs) (λ c. search needs) returns)
+write-on-spec = tie.close (tie.spec (λ c κs. search needs) (λ c. search needs) (λ c κs. search needs) (λ c κs. search needs) (λ c κs. search needs) (λ c κs. search needs) (λ c. search needs) returns)
