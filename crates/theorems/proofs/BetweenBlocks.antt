@@ -1,14 +1,12 @@
 -- Between blocks the head has no transaction, and what it is lent is as long as ever: after every block, and so after every deck.
-use Prim.Native.Nat.{ℕ, _*_}
+use Prim.Native.Nat.{ℕ}
 use mathlib.Core.Path.{_≡_, refl, ap, sym, subst}
 use mathlib.Core.Bool.{Bool, true, false}
 use mathlib.Core.List.{List, [], _∷_}
-use lib.ListN.{length, replicate}
+use lib.ListN.{length}
 use Rattle.promise.specs.Told.{Told, given, refused}
 use Rattle.promise.specs.Rules.{orRefuse}
 use Rattle.mock_base.specs.Flash.{flashSectors, flashRules}
-use Rattle.protocol.specs.Commands.{chipInfoCommand, flashIdCommand, flashInfoCommand, capabilityCommand, storageCommand, eraseLbaCommand, eraseForceCommand, readLbaCommand, writeLbaCommand, resetCommand, switchCommand}
-use Rattle.operation_finish.specs.declared.Kind.the-variants as kind
 use Rattle.operation.specs.declared.steps.UsbOperation.{UsbOperation}
 use Rattle.operation.specs.Record.{fresh}
 use Rattle.mock.specs.declared.device.MockState.{MockState}
@@ -22,15 +20,15 @@ use Rattle.theorems.proofs.NoTransactionLeft.{whole-idle}
 use Rattle.theorems.proofs.UploadKeeps.{upload-keeps}
 use Rattle.theorems.proofs.OperationEnds.{default-sized}
 use Rattle.deck_block.specs.declared.Request.{Request}
-use Rattle.deck_block.specs.declared.Request.the-variants as request
 use Rattle.deck_block.specs.Reading.{readCard}
-use Rattle.deck.specs.Deal.{Head, head}
+use Rattle.deck.specs.Deal.{Head, head, Deal}
 use Rattle.deck.specs.Dealing.{operate, loadOf, load, carryOut, dealAsked, dealBlock}
 use Rattle.deck.specs.Bench.{nextTag}
 use Rattle.deck_chunk.specs.Deck.{Table, table, blocksOf, dealNext, dealBlocks, dealAll}
 use Rattle.theorems.specs.Deck.{Ready, headOf}
 use Rattle.theorems.specs.Chunks.{Deals, no-more, a-chunk}
 use Rattle.theorems.proofs.AnyChunks.{its-table}
+use Rattle.theorems.proofs.ByRequest.{by-request}
 
 module _ (sectors : ℕ) (h : Head) (ready : Ready sectors h) where
   operated : (op : UsbOperation) (bytes : List ℕ) → Ready sectors (operate op bytes h .leaves)
@@ -52,20 +50,7 @@ module _ (sectors : ℕ) (h : Head) (ready : Ready sectors h) where
       }
 
   carried : (tag : ℕ) (asked : Request) → Ready sectors (carryOut tag asked h .leaves)
-  unfolding carryOut
-  carried tag request.ChipInfo = operated (fresh kind.ChipInfo (chipInfoCommand tag)) []
-  carried tag request.FlashId = operated (fresh kind.FlashId (flashIdCommand tag)) []
-  carried tag request.FlashInfo = operated (fresh kind.FlashInfo (flashInfoCommand tag)) []
-  carried tag request.Capability = operated (fresh kind.Capability (capabilityCommand tag)) []
-  carried tag (request.EraseLba first count) = operated (fresh kind.Nothing (eraseLbaCommand tag first count)) []
-  carried tag (request.EraseForce first count) = operated (fresh kind.Nothing (eraseForceCommand tag first count)) []
-  carried tag (request.ReadLba first count) = operated (fresh kind.Read (readLbaCommand tag first count)) (replicate (count * 512) 0)
-  carried tag (request.WriteLba first count fill) = operated (fresh kind.Write (writeLbaCommand tag first count)) (replicate (count * 512) fill)
-  carried tag (request.ResetDevice opcode) = operated (fresh kind.Nothing (resetCommand tag opcode)) []
-  carried tag request.Storage = operated (fresh kind.Storage (storageCommand tag)) []
-  carried tag (request.SwitchStorage index) = operated (fresh kind.Nothing (switchCommand tag index)) []
-  carried tag (request.WriteArea area n fill) = loaded area true (replicate n fill)
-  carried tag (request.WriteAreaNoCrc area n fill) = loaded area false (replicate n fill)
+  carried tag asked = by-request (λ (d : Deal). Ready sectors (d .leaves)) h (λ k c. operated (fresh k c)) loaded tag asked
 
   dealt : (tag : ℕ) (told : Told Request) → Ready sectors (dealAsked tag told h .leaves)
   unfolding dealAsked

@@ -2,6 +2,7 @@
 use Prim.Native.Nat.{ℕ, _*_}
 use mathlib.Core.Path.{_≡_, refl, ap, sym, _∙_}
 use mathlib.Core.Bool.{not}
+use mathlib.Core.Logic.{_⊎_, inl, inr}
 use mathlib.Core.List.{List, [], _∷_}
 use native.Mathlib.Omega.{arith}
 use lib.Dec.{eqb}
@@ -24,40 +25,48 @@ use Rattle.mock_table.specs.declared.session.Session.{Session}
 use Rattle.mock_table.proofs.Sane.{write-sane, read-sane}
 use Rattle.mock.specs.declared.device.MockState.{MockState}
 use Rattle.mock.specs.Device.{Call, sessionOf, writeBulk, readBulk}
+use Rattle.mock_table.specs.declared.outcome.Effect.the-variants as effect
 use Rattle.mock_table.specs.declared.outcome.ReplyKind.the-variants as reply
 use Rattle.theorems.proofs.CallsByTurn.{writes-as, reads-as}
 
--- whatever the transaction is, a read of 13 bytes leaves none
+-- whatever the transaction is, a read of 13 bytes is refused or is its status: no reply is that long, and no sectors are
 module _ (last : LastReset) where
-  Ends : Turn → Type 0
-  Ends t = t .next .«current_command» ≡ None
+  abbrev pub StatusRead : Turn → Type 0
+  StatusRead t =
+      ((number : ℕ) × (values : List ℕ) × (t ≡ refuses last number values)) ⊎ ((tag : ℕ) × (t ≡ done None last (effect.Reply (reply.Status tag))))
 
-  refuses-ends : (number : ℕ) (values : List ℕ) → Ends (refuses last number values)
-  unfolding Ends refuses
-  refuses-ends number values = refl
+  refused-read : (number : ℕ) (values : List ℕ) → StatusRead (refuses last number values)
+  refused-read number values = inl (number, values, refl)
 
-  sectors-end : (c : CommandBlock) (sectors : ℕ) → Ends (sectorTurn last c In sectors 13)
+  sectors-read : (c : CommandBlock) (sectors : ℕ) → StatusRead (sectorTurn last c In sectors 13)
   unfolding sectorTurn
-  sectors-end c sectors =
+  sectors-read c sectors =
       let expected = c .«cd_length» * sectorSize in
-      either-way Ends (refuses last) (rangeRule c sectors ∷ lengthRule expected 13 ∷ []) (done (Status c) last (movedBy In (rangeOf c))) refuses-ends
+      either-way StatusRead (refuses last) (rangeRule c sectors ∷ lengthRule expected 13 ∷ []) (done (Status c) last (movedBy In (rangeOf c))) refused-read
       (λ met. absurd (omega (arith, eqb-true 13 expected (not-false (eqb 13 expected) (met .1 .0)))))
 
-  code-ends : (c : CommandBlock) (sectors : ℕ) → Ends (codeTurn last c sectors 13)
+  code-read : (c : CommandBlock) (sectors : ℕ) → StatusRead (codeTurn last c sectors 13)
   unfolding codeTurn replyTurn orRefuse replySize
-  code-ends c sectors =
-      by-test Ends (hasCode c ReadFlashId) (λ e. refuses-ends 50 (5 ∷ 13 ∷ []))
-      (λ e. by-test Ends (hasCode c ReadFlashInfo) (λ f. refuses-ends 50 (11 ∷ 13 ∷ []))
-      (λ f. by-test Ends (hasCode c ReadChipInfo) (λ g. refuses-ends 50 (16 ∷ 13 ∷ []))
-      (λ g. by-test Ends (hasCode c ReadCapability) (λ h. refuses-ends 50 (8 ∷ 13 ∷ []))
-      (λ h. by-test Ends (hasCode c ReadLBA) (λ k. sectors-end c sectors) (λ k. refuses-ends 54 [])))))
+  code-read c sectors =
+      by-test StatusRead (hasCode c ReadFlashId) (λ e. refused-read 50 (5 ∷ 13 ∷ []))
+      (λ e. by-test StatusRead (hasCode c ReadFlashInfo) (λ f. refused-read 50 (11 ∷ 13 ∷ []))
+      (λ f. by-test StatusRead (hasCode c ReadChipInfo) (λ g. refused-read 50 (16 ∷ 13 ∷ []))
+      (λ g. by-test StatusRead (hasCode c ReadCapability) (λ h. refused-read 50 (8 ∷ 13 ∷ []))
+      (λ h. by-test StatusRead (hasCode c ReadLBA) (λ k. sectors-read c sectors) (λ k. refused-read 54 [])))))
 
-  row-ends : (state : CommandState) (sectors : ℕ) → Ends (readRow state last sectors 13)
-  unfolding readRow readIoTurn statusTurn Ends done
-  row-ends None sectors = refuses-ends 54 []
-  row-ends (IO c) sectors = either-way Ends (refuses last) (rule (not (isIn (c .flags))) 54 [] ∷ []) (codeTurn last c sectors 13) refuses-ends (λ met. code-ends c sectors)
-  row-ends (Status c) sectors =
-      either-way Ends (refuses last) (rule (not (eqb 13 (replySize (reply.Status (c .tag))))) 54 [] ∷ []) (done None last _) refuses-ends (λ met. refl)
+  pub row-read : (state : CommandState) (sectors : ℕ) → StatusRead (readRow state last sectors 13)
+  unfolding readRow readIoTurn statusTurn
+  row-read None sectors = refused-read 54 []
+  row-read (IO c) sectors =
+      either-way StatusRead (refuses last) (rule (not (isIn (c .flags))) 54 [] ∷ []) (codeTurn last c sectors 13) refused-read (λ met. code-read c sectors)
+  row-read (Status c) sectors =
+      either-way StatusRead (refuses last) (rule (not (eqb 13 (replySize (reply.Status (c .tag))))) 54 [] ∷ []) (done None last _) refused-read
+      (λ met. inr (c .tag, refl))
+
+  read-none : (t : Turn) → StatusRead t → t .next .«current_command» ≡ None
+  unfolding refuses done
+  read-none t (inl refusal) = ap (λ (x : Turn). x .next .«current_command») (refusal .2)
+  read-none t (inr status) = ap (λ (x : Turn). x .next .«current_command») (status .1)
 
 module _ (device : MockState) (flash : List ℕ) (sectors : ℕ) (legal : flashSectors (length flash) ≡ given sectors) where
   -- a refused bulk call ends the transaction
@@ -76,8 +85,7 @@ module _ (device : MockState) (flash : List ℕ) (sectors : ℕ) (legal : flashS
       ap (λ (c : Call). c .next .«current_command») call ∙ ap (λ (x : Session). x .«current_command») (ended .0)
 
   pub status-ends : readBulk device flash (replicate 13 0) .next .«current_command» ≡ None
-  unfolding Ends
   status-ends =
       ap (λ (c : Call). c .next .«current_command»)
       (reads-as device flash (replicate 13 0) sectors (device .«current_command») (readTurn (sessionOf device) sectors 13) legal refl refl)
-      ∙ row-ends (device .«last_reset») (device .«current_command») sectors
+      ∙ read-none (device .«last_reset») _ (row-read (device .«last_reset») (device .«current_command») sectors)

@@ -42,7 +42,7 @@ unfolding transfers finishedTold andThen
 finish-ends (given r) s = refl
 finish-ends (refused number values) s = refl
 
-finish-turn : (s : UsbState) → s .operation .next ≡ operation.Finish
+pub finish-turn : (s : UsbState) → s .operation .next ≡ operation.Finish
     → usbTurn s ≡ ends (finishes (s .operation .kind) (s .operation .command .tag) (transferLength (s .operation)) (s .operation .«command_bytes») (s .operation .«data»))
     (usbState (turned (s .operation) operation.CommandBlock asked.Nothing) (s .device) (s .flash) (s .«data»))
 unfolding usbTurn finishStep

@@ -1,24 +1,27 @@
 -- An image handed over to its end: `CutIntoTransfers` has how its bytes are cut, `BehindTheImage` what follows it, `StepsToFinish` how a record is
 -- stepped to its finish, `ClosingSends`, `WholeSends` and `PartsSend` what a record has still to send, `AnyCut` that any cut gives the same
--- transfers, `OneCall` what one call takes of what is to be sent, `AnyCaller` that any caller sees the transfers of what was taken, `ImageInOrder` that
--- who hands over an image in order sees the image's, `AnyWholeCaller` the same of the whole upload, `CallsAnswered` that a caller can go on,
+-- transfers, `OneCall` what one call takes of what is to be sent, `AnyCaller` that any caller sees the transfers of what was taken, `ImageInOrder`
+-- that who hands over an image in order sees the image's, `AnyWholeCaller` the same of the whole upload, `CallsAnswered` that a caller can go on,
 -- `ComesToTheFinish` by how many calls he comes to the finish.
--- Three of these callers: `ListsOfParts` has the driver, `PartsOfOneSize` and `LinkedWhole` the two uploads that C and Rust link, `CallsForParts` how many
--- calls the first of them takes, `DrivenToTheEnd` what they answer. `UploadExamples` has examples P3 to P8 of the rules, `EveryStep` what holds at every
--- record.
+-- Three of these callers: `ListsOfParts` has the driver, `PartsOfOneSize` and `LinkedWhole` the two uploads that C and Rust link, `CallsForParts` how
+-- many calls the first of them takes, `DrivenToTheEnd` what they answer. `UploadExamples` has examples P3 to P8 of the rules, `EveryStep` what holds
+-- at every record.
 -- A run of an upload: `UploadTransfers` has its control writes, `UploadSteps` how many steps it takes, `UploadRefusals` which refusals it can meet,
--- `TwoWritesAreOne` that two writes to an area are one, `UploadLands` what the upload leaves, `UploadKeeps` what it keeps,
--- `UploadMakes` that the device's record is one that calls from a fresh start can make, `UploadHandedBack` that the upload's is.
+-- `TwoWritesAreOne` that two writes to an area are one, `UploadLands` what the upload leaves, `UploadKeeps` what it keeps, `UploadMakes` that the
+-- device's record is one that calls from a fresh start can make, `UploadHandedBack` that the upload's is.
 -- A run of an operation: `OperationSteps` has how many steps it takes, `SectorsLand` what it leaves of flash and data, `CallsByTurn` that a bulk call
--- is the table's turn, `CallsThatEnd` which calls end the transaction, `NoTransactionLeft` that none is left after a run, `BetweenRuns` what holds
--- between one run and the next, `FromStatus`, `FromStart` and `FromData` how a run goes on from there, `OperationEnds` what each operation ends in,
--- `OperationTold` what any may be told, `CommandsAreBytes` that its command goes out as bytes, `OperationMakes` that the device's record is one that calls
--- from a fresh start can make, `OperationAnswered` that every step and giving has an answer, `OperationHandedBack` that the operation's record is such a one.
+-- is the table's turn, `CallsThatEnd` which calls end the transaction, `NoTransactionLeft` that none is left after a run, `NeverShort` that no run
+-- ends in a short transfer, `BetweenRuns` what holds between one run and the next, `FromStatus`, `FromStart` and `FromData` how a run goes on from
+-- there, `PassedOn` that a run ends in what the finish tells, `OperationEnds` what each operation ends in, `LinkedSectors` that an answer of 0 to C
+-- and Rust is a whole transfer, `OperationTold` what any may be told, `CommandsAreBytes` that its command goes out as bytes, `OperationMakes` that
+-- the device's record is one that calls from a fresh start can make, `OperationAnswered` that every step and giving has an answer,
+-- `OperationHandedBack` that the operation's record is such a one.
 -- A run that ended in 28: `CheckedRuns` has that it and the run that resumes it are one run, if its checks pass again, `OperationResumed` and
 -- `UploadResumed` that they do, for the runs that are called.
--- A deck: `BenchStart` has the flash that a bench starts with, `BetweenBlocks` what holds between one block and the next, `DeckRefusals` the refusals
--- that the bench can meet, `BlockNumbers` each block's number and tag, `AnyChunks` that any chunks give the lines
--- of the whole, `DeckLines` where the lines end, `DeckMakes` that the device's record is one that calls from a fresh start can make.
+-- A deck: `BenchStart` has the flash that a bench starts with, `ByRequest` that what holds of operations and uploads holds of blocks, `BetweenBlocks`
+-- what holds between one block and the next, `DeckRefusals` the refusals that the bench can meet, `DeckNeverShort` that it meets no short transfer
+-- and that its lines are as they were, `BlockNumbers` each block's number and tag, `AnyChunks` that any chunks give the lines of the whole,
+-- `DeckLines` where the lines end, `DeckMakes` that the device's record is one that calls from a fresh start can make.
 pub mod CutIntoTransfers
 pub mod BehindTheImage
 pub mod StepsToFinish
@@ -52,11 +55,14 @@ pub mod SectorsLand
 pub mod CallsByTurn
 pub mod CallsThatEnd
 pub mod NoTransactionLeft
+pub mod NeverShort
 pub mod BetweenRuns
 pub mod FromStatus
+pub mod PassedOn
 pub mod FromStart
 pub mod FromData
 pub mod OperationEnds
+pub mod LinkedSectors
 pub mod OperationTold
 pub mod CommandsAreBytes
 pub mod OperationMakes
@@ -66,8 +72,10 @@ pub mod CheckedRuns
 pub mod OperationResumed
 pub mod UploadResumed
 pub mod BenchStart
+pub mod ByRequest
 pub mod BetweenBlocks
 pub mod DeckRefusals
+pub mod DeckNeverShort
 pub mod BlockNumbers
 pub mod AnyChunks
 pub mod DeckLines

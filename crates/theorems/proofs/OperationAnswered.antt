@@ -21,13 +21,15 @@ use Rattle.protocol_status.specs.declared.report.CommandStatus.{CommandStatus}
 use Rattle.protocol_status.specs.declared.failure.UsbOperationError.the-variants.{InvalidStatusSignature, InvalidStatusStatus, InvalidStatusLength}
 use Rattle.protocol_reply.specs.Media.{placesSet, onlyPlace, readStorage}
 use Rattle.operation_finish.specs.declared.UsbReply.the-variants as usb
+use Rattle.operation_finish.specs.declared.SectorTransfer.{SectorTransfer}
 use Rattle.operation_finish.specs.declared.Finished.{Finished}
 use Rattle.operation_finish.specs.declared.Beside.{Beside}
 use Rattle.operation_finish.specs.declared.Kind.{Kind}
 use Rattle.operation_finish.specs.declared.Kind.the-variants as kind
 use Rattle.operation_finish.specs.Reply.{Reply, chipInfo, flashId, flashInfo, capability, nothing, storage, moved, replyGiven, finishTold, besideReply, besideOf, FinishMeets}
 use Rattle.operation_finish.specs.Code.{failedWith, repliedWith}
-use Rattle.operation_finish.specs.Finish.{failed, movedOf, sectorReply, storageReply, replyOf, judged, finishes}
+use Rattle.operation_finish.specs.Transfer.{transferOf}
+use Rattle.operation_finish.specs.Finish.{failed, sectorsBy, sectorReply, storageReply, replyBy, replyOf, judgedBy, judged, finishesBy, finishes}
 use Rattle.operation_finish.proofs.Cases.{refused-10, refused-14, refused-15}
 use Rattle.operation.specs.declared.steps.Operation.{Operation}
 use Rattle.operation.specs.declared.steps.Operation.the-variants as operation
@@ -60,7 +62,7 @@ replies (flashInfo x) = (repliedWith usb.FlashInfo (besideReply (flashInfo x)), 
 replies (capability x) = (repliedWith usb.Capability (besideReply (capability x)), record { tells = refl; beside = refl })
 replies nothing = (repliedWith usb.Nothing (besideReply nothing), record { tells = refl; beside = refl })
 replies (storage index) = (repliedWith (usb.Storage index) (besideReply (storage index)), record { tells = refl; beside = refl })
-replies (moved m) = (repliedWith (usb.Sectors m) (besideReply (moved m)), record { tells = refl; beside = refl })
+replies (moved transfer) = (repliedWith (usb.Sectors transfer) (besideReply (moved transfer)), record { tells = refl; beside = refl })
 
 refused-11 : (signature : List ℕ) → FinishAnswered (refused 11 signature)
 unfolding finishTold besideOf failureNumber failureValues signatureIn
@@ -80,17 +82,17 @@ place-answered [] = (_, refused-14)
 place-answered (p ∷ []) = replies _
 place-answered (p ∷ q ∷ more) = (_, refused-14)
 
-moves-answered : (short : Bool) (n : ℕ) → FinishAnswered (andThen (pick short (refused 14 []) (given (record { 0 = n }))) (λ m. given (moved m)))
+moves-answered : (above : Bool) (transfer : SectorTransfer) → FinishAnswered (andThen (pick above (refused 14 []) (given transfer)) (λ told. given (moved told)))
 unfolding andThen
-moves-answered true n = (_, refused-14)
-moves-answered false n = replies _
+moves-answered true transfer = (_, refused-14)
+moves-answered false transfer = replies _
 
 sectors-answered : (l residue : ℕ) → FinishAnswered (sectorReply l residue)
-unfolding sectorReply movedOf orRefuse
+unfolding sectorsBy transferOf orRefuse
 sectors-answered l residue = moves-answered (ltb l residue) _
 
 reply-answered : (k : Kind) (l residue : ℕ) (inband : List ℕ) → FinishAnswered (replyOf k l residue inband)
-unfolding replyOf storageReply readStorage
+unfolding replyBy storageReply readStorage
 reply-answered kind.ChipInfo l residue inband = replies _
 reply-answered kind.FlashId l residue inband = replies _
 reply-answered kind.FlashInfo l residue inband = replies _
@@ -102,7 +104,7 @@ reply-answered kind.Write l residue inband = sectors-answered l residue
 
 module _ (k : Kind) (tag l : ℕ) (status inband : List ℕ) where
   judged-answered : (s : CommandStatus) → FinishAnswered (judged k tag l inband s)
-  unfolding judged orRefuse
+  unfolding judgedBy orRefuse
   judged-answered s =
       by-test FinishAnswered (failed (s .status)) (λ e. (_, refused-15))
       (λ e. by-test FinishAnswered (not (eqb (s .tag) tag)) (λ f. (_, refused-10)) (λ f. reply-answered k l (s .residue) inband))
@@ -118,7 +120,7 @@ module _ (k : Kind) (tag l : ℕ) (status inband : List ℕ) where
       rw (seven, byte) (refused-12 (getD status 12 0))
 
   finish-answered : FinishAnswered (finishes k tag l status inband)
-  unfolding finishes readStatus orRefuse atFinish andThen
+  unfolding finishesBy readStatus orRefuse atFinish andThen
   finish-answered =
       let P : Told CommandStatus → Type 0 = λ t. FinishAnswered (andThen (atFinish t) (judged k tag l inband)) in
       by-test P (ltb (length status) 13) (λ e. refused-13)

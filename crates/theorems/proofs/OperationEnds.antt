@@ -4,7 +4,6 @@ use Prim.Native.Nat.{ℕ, suc, _*_, _/_, _<_, _≤_, _^_, min}
 use mathlib.Core.Path.{_≡_, refl, ap, sym, _∙_}
 use mathlib.Core.Bool.{true, false}
 use mathlib.Core.List.{List, [], _∷_, _++_}
-use native.Mathlib.Nat.{sub-zero}
 use native.Mathlib.Omega.{arith}
 use lib.ListN.{length, take, drop, replicate}
 use lib.Seq.{take-at}
@@ -25,8 +24,9 @@ use Rattle.protocol_bytes.specs.Sector.{sectorSize}
 use Rattle.protocol.specs.declared.CommandBlock.{CommandBlock}
 use Rattle.protocol.specs.Commands.{replyCommand, opcodeCommand, sectorCommand, chipInfoCommand, flashIdCommand, flashInfoCommand, capabilityCommand, storageCommand, eraseLbaCommand, eraseForceCommand, readLbaCommand, writeLbaCommand, resetCommand, switchCommand}
 use Rattle.operation_finish.specs.Reply.{Reply, chipInfo, flashId, flashInfo, capability, nothing, moved}
-use Rattle.operation_finish.specs.Finish.{sectorReply, replyOf}
-use Rattle.operation_finish.proofs.Cases.{sectors-moved}
+use Rattle.operation_finish.specs.Transfer as transfer
+use Rattle.operation_finish.specs.Finish.{sectorReply, replyBy, replyOf}
+use Rattle.operation_finish.proofs.Cases.{sectors-whole}
 use Rattle.operation_finish.specs.declared.Kind.{Kind}
 use Rattle.operation_finish.specs.declared.Kind.the-variants as kind
 use Rattle.operation.specs.declared.steps.IOBytes.the-variants as io
@@ -100,25 +100,25 @@ module _ (device : MockState) (flash bytes : List ℕ) (store sectors : ℕ) (st
 
   module _ (sized : Sized (device .config)) where
     pub chip-info-ends : operationRun kind.ChipInfo (chipInfoCommand tag) device flash bytes store .end ≡ tells (given (chipInfo (record { 0 = device .config .«chip_info» })))
-    unfolding sectorData readIoTurn codeTurn replyTurn orRefuse hasCode isIn replySize replyBytes replyOf
+    unfolding sectorData readIoTurn codeTurn replyTurn orRefuse hasCode isIn replySize replyBytes replyBy
     chip-info-ends =
         replied kind.ChipInfo 16 ReadChipInfo (omega arith) (omega arith) refl refl reply.ChipInfo (λ l. chipInfo (record { 0 = l })) refl (λ l. refl) (sized .chip)
 
     pub flash-id-ends : operationRun kind.FlashId (flashIdCommand tag) device flash bytes store .end ≡ tells (given (flashId (record { 0 = device .config .«flash_id» })))
-    unfolding sectorData readIoTurn codeTurn replyTurn orRefuse hasCode isIn replySize replyBytes replyOf
+    unfolding sectorData readIoTurn codeTurn replyTurn orRefuse hasCode isIn replySize replyBytes replyBy
     flash-id-ends =
         replied kind.FlashId 5 ReadFlashId (omega arith) (omega arith) refl refl reply.FlashId (λ l. flashId (record { 0 = l })) refl (λ l. refl) (sized .id)
 
     pub flash-info-ends : operationRun kind.FlashInfo (flashInfoCommand tag) device flash bytes store .end
         ≡ tells (given (flashInfo (record { 0 = config.flashInfo (device .config) (length flash / sectorSize) })))
-    unfolding sectorData readIoTurn codeTurn replyTurn orRefuse hasCode isIn replySize replyBytes replyOf config.flashInfo lowFirst
+    unfolding sectorData readIoTurn codeTurn replyTurn orRefuse hasCode isIn replySize replyBytes replyBy config.flashInfo lowFirst
     flash-info-ends =
         replied kind.FlashInfo 11 ReadFlashInfo (omega arith) (omega arith) refl refl reply.FlashInfo (λ l. flashInfo (record { 0 = l })) refl (λ l. refl)
         (ap (λ (n : ℕ). suc (suc (suc (suc (suc (suc n)))))) (sized .extra))
 
     pub capability-ends : operationRun kind.Capability (capabilityCommand tag) device flash bytes store .end
         ≡ tells (given (capability (record { 0 = device .config .capability })))
-    unfolding sectorData readIoTurn codeTurn replyTurn orRefuse hasCode isIn replySize replyBytes replyOf
+    unfolding sectorData readIoTurn codeTurn replyTurn orRefuse hasCode isIn replySize replyBytes replyBy
     capability-ends =
         replied kind.Capability 8 ReadCapability (omega arith) (omega arith) refl refl reply.Capability (λ l. capability (record { 0 = l })) refl (λ l. refl) (sized .capability)
 
@@ -132,7 +132,7 @@ module _ (device : MockState) (flash bytes : List ℕ) (store sectors : ℕ) (st
   opcode-fits code opcode = record { tag = small; transfer = omega arith; address = omega arith; count = omega arith }
 
   pub reset-ends : (opcode : ResetOpcode) → operationRun kind.Nothing (resetCommand tag opcode) device flash bytes store .end ≡ tells (given nothing)
-  unfolding sectorData startTurn zeroLengthTurn storedReset isErase hasCode replyOf
+  unfolding sectorData startTurn zeroLengthTurn storedReset isErase hasCode replyBy
   reset-ends opcode =
       let c = resetCommand tag opcode in
       done-at-once kind.Nothing c device flash bytes store sectors stands (opcode-fits (c .«cd_code») (c .«cd_opcode»)) (omega arith) (reset.Some opcode) effect.Nothing refl
@@ -161,7 +161,7 @@ module _ (device : MockState) (flash bytes : List ℕ) (store sectors : ℕ) (st
     -- erases, by either code
     erase-ends : (code : CommandCode) → isErase (sectorCommand tag 0 Out code first count) ≡ true
         → operationRun kind.Nothing (sectorCommand tag 0 Out code first count) device flash bytes store .end ≡ tells (pick (fitsIn sectors first count) (given nothing) (refused 57 []))
-    unfolding sectorData startTurn zeroLengthTurn orRefuse replyOf refuses
+    unfolding sectorData startTurn zeroLengthTurn orRefuse replyBy refuses
     erase-ends code erases =
         let c = sectorCommand tag 0 Out code first count in
         let fits = sector-block-fits 0 Out code (omega arith) in
@@ -183,15 +183,15 @@ module _ (device : MockState) (flash bytes : List ℕ) (store sectors : ℕ) (st
     module _ (some : 0 < count) (enough : count * sectorSize ≤ length bytes) where
       by-fit : (k : Kind) (c : CommandBlock) → (fitsIn sectors first count ≡ true → operationRun k c device flash bytes store .end ≡ tells (sectorReply (count * sectorSize) 0))
           → (fitsIn sectors first count ≡ false → operationRun k c device flash bytes store .end ≡ tells (refused 57 []))
-          → operationRun k c device flash bytes store .end ≡ tells (pick (fitsIn sectors first count) (given (moved (record { 0 = count * sectorSize }))) (refused 57 []))
+          → operationRun k c device flash bytes store .end ≡ tells (pick (fitsIn sectors first count) (given (moved (transfer.whole (count * sectorSize)))) (refused 57 []))
       by-fit k c within out =
           by-test (λ (x : Told Reply). operationRun k c device flash bytes store .end ≡ tells x) (fitsIn sectors first count)
-          (λ e. within e ∙ ap tells (sectors-moved (count * sectorSize) 0 (omega arith) ∙ ap (λ (n : ℕ). given (moved (record { 0 = n }))) (sub-zero (count * sectorSize))))
+          (λ e. within e ∙ ap tells (sectors-whole (count * sectorSize) 0 refl))
           out
 
       pub read-ends : operationRun kind.Read (readLbaCommand tag first count) device flash bytes store .end
-          ≡ tells (pick (fitsIn sectors first count) (given (moved (record { 0 = count * sectorSize }))) (refused 57 []))
-      unfolding sectorData readIoTurn codeTurn orRefuse hasCode isIn replyOf
+          ≡ tells (pick (fitsIn sectors first count) (given (moved (transfer.whole (count * sectorSize)))) (refused 57 []))
+      unfolding sectorData readIoTurn codeTurn orRefuse hasCode isIn replyBy
       read-ends =
           let c = readLbaCommand tag first count in
           let fits = sector-block-fits (count * sectorSize) In ReadLBA (omega arith) in
@@ -201,8 +201,8 @@ module _ (device : MockState) (flash bytes : List ℕ) (store sectors : ℕ) (st
           (λ e. read-refused kind.Read c device flash bytes store sectors stands fits enough (λ z. omega arith) enough refl 57 [] (sector-out last c In sectors e))
 
       pub write-ends : operationRun kind.Write (writeLbaCommand tag first count) device flash bytes store .end
-          ≡ tells (pick (fitsIn sectors first count) (given (moved (record { 0 = count * sectorSize }))) (refused 57 []))
-      unfolding sectorData writeIoTurn orRefuse hasCode isOut replyOf
+          ≡ tells (pick (fitsIn sectors first count) (given (moved (transfer.whole (count * sectorSize)))) (refused 57 []))
+      unfolding sectorData writeIoTurn orRefuse hasCode isOut replyBy
       write-ends =
           let c = writeLbaCommand tag first count in
           let fits = sector-block-fits (count * sectorSize) Out WriteLBA (omega arith) in

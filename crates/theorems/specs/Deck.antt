@@ -10,7 +10,9 @@ use mathlib.Core.Bool.{true}
 use Rattle.promise.specs.Told.{Told, given, refused}
 use Rattle.operation_finish.specs.Reply.{Reply}
 use Rattle.deck_block.specs.Refusals.{isAmong, blockRefusals}
-use Rattle.deck_chunk.specs.Deck.{Table}
+use Rattle.promise.specs.Rules.{pick}
+use Rattle.deck.specs.Bench.{nextNumber}
+use Rattle.deck_chunk.specs.Deck.{Table, dealOf, dealNext}
 
 pub record Ready (sectors : ℕ) (h : Head) : Type 0 where
   pub stands : Standing (h .device) (h .flash) (length (h .store)) sectors
@@ -35,3 +37,9 @@ benchRefusals = blockRefusals ++ doneRefusals
 abbrev pub BenchTold : Told Reply → Type 0
 BenchTold (given reply) = Unit
 BenchTold (refused n values) = isAmong n benchRefusals ≡ true
+
+-- the lines of blocks, each made by `text` from its number and what is told of it
+unfoldable pub linesBy : (ℕ → Told Reply → List ℕ) → List (List ℕ) → Table → List ℕ
+linesBy text [] t = []
+linesBy text (block ∷ blocks) t =
+    pick (t .deck .«is_over») [] (text (nextNumber (t .deck .bench)) (dealOf t block .told)) ++ linesBy text blocks (dealNext block t .leaves)

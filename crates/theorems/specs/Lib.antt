@@ -1,7 +1,7 @@
 -- What the statements of the theorems speak of. `UploadBytes` is what goes over the wire, `PartDriver` what somebody sees who hands an image over to
 -- the end, `AnyCaller` what any calls of a part-wise upload come to, `DriveTrace` the transfers of the uploads that C and Rust link, `Runs` whole runs
 -- from their starts, `Told` what they may be told, `Standing` a device between two runs, `Deck` a bench between two blocks, `Chunks` a deck dealt chunk by
--- chunk, `Resumed` two runs taken as one.
+-- chunk, `Resumed` two runs taken as one, `OnStandIns` an operation that only stand-ins have answered.
 pub mod UploadBytes
 pub mod PartDriver
 pub mod AnyCaller
@@ -11,4 +11,5 @@ pub mod Told
 pub mod Standing
 pub mod Deck
 pub mod Resumed
+pub mod OnStandIns
 pub mod Chunks
