@@ -3,11 +3,24 @@ use deck::bench::Bench;
 use deck::bench::DeckStep;
 use deck::verdict::Verdict;
 use operation_finish::Beside;
+use operation_finish::SectorTransfer;
 use operation_finish::UsbReply;
 use replay_answers::out::decimal;
 use replay_answers::out::hex;
 use replay_answers::out::text;
 use replay_answers::out::value;
+
+// The bytes moved; of a short transfer, a slash and the bytes asked stand behind them.
+fn transfer(out: &mut [u8], at: usize, transfer: SectorTransfer) -> usize {
+    match transfer {
+        SectorTransfer::Whole(moved) => return decimal(out, at, moved.0 as u64),
+        SectorTransfer::Short(short) => {
+            let moved = decimal(out, at, short.moved.0 as u64);
+            let slash = text(out, moved, b"/");
+            return decimal(out, slash, short.asked.0 as u64);
+        }
+    }
+}
 
 // Bytes for chip info, flash id, flash info and capability, a count for sectors, and nothing else.
 fn reply(out: &mut [u8], at: usize, reply: UsbReply, beside: Beside) -> usize {
@@ -28,7 +41,7 @@ fn reply(out: &mut [u8], at: usize, reply: UsbReply, beside: Beside) -> usize {
             let bytes = beside.capability.0;
             return hex(out, at, &bytes);
         }
-        UsbReply::Sectors(moved) => return decimal(out, at, moved.0 as u64),
+        UsbReply::Sectors(came) => return transfer(out, at, came),
         _ => return text(out, at, b"-"),
     }
 }

@@ -14,6 +14,7 @@ use operation::steps::UsbOperation;
 use operation::steps::UsbStep;
 use operation_finish::Beside;
 use operation_finish::FinishAnswer;
+use operation_finish::SectorTransfer;
 use operation_finish::UsbReply;
 use protocol_codes::ResetOpcode;
 use protocol_codes::ResetRead;
@@ -21,6 +22,7 @@ use protocol_reply::size::SectorAnswer;
 use replay_answers::refusals::operation_error;
 use replay_answers::told::Answer;
 use replay_answers::told::Tail;
+use replay_answers::told::Told;
 use replay_answers::told::none;
 use replay_answers::told::one;
 use replay_answers::told::outside;
@@ -161,6 +163,14 @@ fn open(asked: Asked, bytes: &[u8], own: &mut [u8]) -> Operated {
     opened(asked)
 }
 
+// Bytes: what was moved, and of a short transfer what was asked behind it.
+fn transfer_value(transfer: SectorTransfer) -> Told {
+    match transfer {
+        SectorTransfer::Whole(moved) => one(0, moved.0 as u64),
+        SectorTransfer::Short(short) => two(0, short.moved.0 as u64, short.asked.0 as u64),
+    }
+}
+
 fn reply_value(reply: UsbReply, beside: Beside) -> Answer {
     match reply {
         UsbReply::ChipInfo => chip_value(beside.chip_info),
@@ -169,7 +179,7 @@ fn reply_value(reply: UsbReply, beside: Beside) -> Answer {
         UsbReply::Capability => capability_value(none(0), beside.capability),
         UsbReply::Nothing => plain(none(0)),
         UsbReply::Storage(index) => plain(storage(index)),
-        UsbReply::Sectors(moved) => plain(one(0, moved.0 as u64)),
+        UsbReply::Sectors(transfer) => plain(transfer_value(transfer)),
     }
 }
 

@@ -8,6 +8,7 @@ use std::{
 
 use crate::{
     cases::make::Case,
+    forgets::is_same,
     oracle::{Oracle, outside},
 };
 
@@ -54,7 +55,7 @@ pub fn differ(program: &str, case: &[String]) -> io::Result<Option<Difference>> 
         if !answered {
             ours = NO_ANSWER.into();
         }
-        if found.is_none() && (!answered || (outside(&rust).is_none() && rust != ours)) {
+        if found.is_none() && (!answered || (outside(&rust).is_none() && !is_same(line, &rust, &ours))) {
             found = Some(Difference { case: case[..=i].to_vec(), rust, ours: ours.clone() });
         }
     }

@@ -14,9 +14,10 @@ use std::{
 };
 
 use crate::{
-    asking::{next_answer, start},
+    asking::{Difference, next_answer, start},
     bounds::bound,
     cases::{Kind, generate, make::Case},
+    forgets::{is_same, is_short, shows},
     oracle::{Oracle, outside},
     smallest::{LONGEST, smallest},
     text::Reason,
@@ -46,6 +47,8 @@ pub struct Count {
     pub complaints: usize,
     /// Calls that the Rust's side answered with each of `FULL`.
     pub full: [usize; 2],
+    /// Calls whose sector operation moved fewer bytes than asked, by the Rust's side.
+    pub short: usize,
     /// The first cases that differed, up to the line that did.
     pub found: Vec<Case>,
 }
@@ -61,6 +64,7 @@ impl Count {
         self.complaints += other.complaints;
         self.full[0] += other.full[0];
         self.full[1] += other.full[1];
+        self.short += other.short;
         self.found.extend(other.found);
     }
 
@@ -158,7 +162,8 @@ fn compare_case(
         if let Some(n) = FULL.iter().position(|full| number(line, &rust) == Some(full)) {
             count.full[n] += 1;
         }
-        if !answered || (reason.is_none() && rust != *ours) {
+        count.short += usize::from(is_short(line, &rust));
+        if !answered || (reason.is_none() && !is_same(line, &rust, ours)) {
             count.differences += 1;
             if is_first && count.found.len() < SHOWN {
                 count.found.push(case[..=i].to_vec());
@@ -191,10 +196,20 @@ pub fn print_found(program: &str, count: &Count) -> io::Result<()> {
         println!("difference:");
         difference.case.iter().for_each(|line| println!("  > {line}"));
         println!("  rust: {}", difference.rust);
+        print_shown(&difference);
         println!("  ours: {}", difference.ours);
         printed.push(difference.case);
     }
     Ok(())
+}
+
+/// Where the Rust has not the distinction that a program must show, what it must show.
+fn print_shown(difference: &Difference) {
+    let Difference { case, rust, .. } = difference;
+    let shown = case.last().map_or(rust.into(), |line| shows(line, rust));
+    if shown != *rust {
+        println!("  must show: {shown}");
+    }
 }
 
 pub fn print_count(name: &str, count: &Count) {

@@ -82,6 +82,12 @@ fn read(block: &[u8]) -> Result<Fields, u8> {
     Ok(asks)
 }
 
+/// The bytes that a block's operation is to move, where it is one over sectors.
+pub fn sector_bytes(block: &[u8]) -> Option<u64> {
+    let asks = read(block).ok()?;
+    matches!(asks.kind, 7 | 8).then_some(u64::from(asks.half) * 512)
+}
+
 /// The arguments of the language's `opn`.
 fn operation(asks: &Fields, tag: u32) -> String {
     let Fields { kind, word, half, byte } = *asks;

@@ -6,6 +6,7 @@ mod bounds;
 mod cases;
 mod compare;
 mod decks;
+mod forgets;
 mod operations;
 mod oracle;
 mod refusals;
@@ -17,23 +18,40 @@ mod text;
 mod values;
 
 use std::{
+    fs,
     io::{self, BufRead, BufWriter, Write},
     process::ExitCode,
 };
 
 use cases::{Kind, SAMPLE_SEED};
+use forgets::{forgets, shows};
 use oracle::{Oracle, outside};
 use scale::Programs;
 
-/// Whether every line was of the language and the Rust panicked at none.
-fn answer() -> io::Result<bool> {
+/// The Rust's answers, or what a program must show for them. Whether every line was of the language and the Rust panicked
+/// at none.
+fn answer(is_shown: bool) -> io::Result<bool> {
     let mut oracle = Oracle::default();
     let mut out = BufWriter::new(io::stdout().lock());
     for line in io::stdin().lock().lines() {
-        writeln!(out, "{}", oracle.answer(&line?))?;
+        let line = line?;
+        let rust = oracle.answer(&line);
+        writeln!(out, "{}", if is_shown { shows(&line, &rust) } else { rust.as_str().into() })?;
     }
     out.flush()?;
     Ok(oracle.complaints().is_empty())
+}
+
+/// A program's answers to the cases of a file, with the distinction forgotten. Whether there was one for each line.
+fn forgotten(file: &str) -> io::Result<bool> {
+    let cases = fs::read_to_string(file)?;
+    let ours = io::read_to_string(io::stdin())?;
+    let mut out = BufWriter::new(io::stdout().lock());
+    for (line, ours) in cases.lines().zip(ours.lines()) {
+        writeln!(out, "{}", forgets(line, ours))?;
+    }
+    out.flush()?;
+    Ok(cases.lines().count() == ours.lines().count())
 }
 
 fn generate(seed: u64, count: usize, kinds: &[Kind]) -> io::Result<bool> {
@@ -71,7 +89,9 @@ fn sample(kinds: &[Kind]) -> io::Result<bool> {
 
 fn dispatch(args: &[&str]) -> Option<io::Result<bool>> {
     Some(match args {
-        ["answer"] => answer(),
+        ["answer"] => answer(false),
+        ["shown"] => answer(true),
+        ["forgotten", file] => forgotten(file),
         ["generate", seed, count, kind] => {
             generate(seed.parse().ok()?, count.parse().ok()?, &Kind::named(kind)?)
         }

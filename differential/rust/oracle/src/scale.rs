@@ -33,6 +33,12 @@ const LEFT_OUT: &str = "-";
 /// Kinds whose cases fill a store, which 58 and 59 refuse.
 const FILLING: [Kind; 3] = [Kind::Device, Kind::Runs, Kind::Decks];
 
+/// Kinds that finish operations.
+const FINISHING: [Kind; 4] = [Kind::Operations, Kind::Runs, Kind::Decks, Kind::Sizes];
+
+/// Short transfers that `operations` has at least.
+pub const LEAST_SHORT: usize = 10_000;
+
 /// A kind's calls are asked in so many pieces, so that no core is left idle for long.
 const PIECES: usize = 8;
 
@@ -137,7 +143,7 @@ fn work(
 }
 
 /// Whether there was no difference, no reason for `outside` above its bound and, where all is asked, a store that was
-/// full. `share` takes one in so many of the calls.
+/// full and short transfers where they have to be, and there alone. `share` takes one in so many of the calls.
 pub fn scale(programs: &Programs, seed: u64, share: usize) -> io::Result<bool> {
     println!("seed {seed}");
     let began = Instant::now();
@@ -163,6 +169,25 @@ fn is_filled(kind: Kind, count: &Count) -> bool {
     !count.full.contains(&0)
 }
 
+/// What is wrong with so many short transfers of a kind where all is asked: `operations`, whose statuses are given by
+/// hand, is to have `LEAST_SHORT`, and no other kind has one, since the stand-in's residue is 0.
+pub fn wrong_short(kind: Kind, short: usize) -> Option<&'static str> {
+    match (kind, short) {
+        (Kind::Operations, ..LEAST_SHORT) => Some(", which is TOO FEW"),
+        (Kind::Operations, _) | (_, 0) => None,
+        _ => Some(", where NONE may be"),
+    }
+}
+
+/// Whether a kind had short transfers exactly where it is to have them.
+fn is_short_by_hand(kind: Kind, count: &Count) -> bool {
+    let wrong = wrong_short(kind, count.short);
+    if FINISHING.contains(&kind) {
+        println!("{}: answered short {}{}", kind.name(), count.short, wrong.unwrap_or_default());
+    }
+    wrong.is_none()
+}
+
 fn report(
     programs: &Programs,
     share: usize,
@@ -181,6 +206,7 @@ fn report(
         print_count(&format!("{}: ", kind.name()), &count);
         all_kept &= print_outside(kind, &count);
         all_kept &= share > 1 || is_filled(kind, &count);
+        all_kept &= share > 1 || is_short_by_hand(kind, &count);
         all.add(count);
     }
     println!("{} seconds", took.as_secs());

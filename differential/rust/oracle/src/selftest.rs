@@ -13,7 +13,9 @@ use crate::{
     bounds::bound,
     cases::{ALL, Kind, SAMPLE_SEED, generate, make::Case},
     compare::{Count, is_kept},
+    forgets::{forgets, is_same, is_short, shows},
     oracle::{LINE_LIMIT, Oracle, PANIC, caught, outside},
+    scale::{LEAST_SHORT, wrong_short},
     text::Reason,
 };
 
@@ -33,6 +35,8 @@ pub fn selftest(page: &str) -> io::Result<bool> {
         ("58 and 59 leave the device and the upload as the rules say", refused_by_the_store()),
         ("cases reach 65,536 sectors, data of 65,535 and a budget of 10,000", reached()),
         ("a reason above its bound fails a run, and so does a panic", bounded()),
+        ("a short transfer is shown, and forgetting that leaves the Rust's answer", distinguished()),
+        ("a transfer that is told wrongly is a difference", told_wrongly()),
         ("faults of the Rust", faults()),
     ];
     let mut held = true;
@@ -45,7 +49,10 @@ pub fn selftest(page: &str) -> io::Result<bool> {
 }
 
 fn check(bad: &mut Vec<String>, oracle: &mut Oracle, line: &str, wanted: &str) {
-    let got = oracle.answer(line);
+    hold(bad, line, &oracle.answer(line), wanted);
+}
+
+fn hold(bad: &mut Vec<String>, line: &str, got: &str, wanted: &str) {
     if got != wanted {
         bad.push(format!("{line}: wanted {wanted}, got {got}"));
     }
@@ -59,7 +66,8 @@ fn examples(page: &str) -> Vec<String> {
     while let Some(line) = lines.next() {
         if let Some(call) = line.strip_prefix("> ") {
             count += 1;
-            check(&mut bad, &mut oracle, call, lines.next().unwrap_or_default());
+            let rust = oracle.answer(call);
+            hold(&mut bad, call, &shows(call, &rust), lines.next().unwrap_or_default());
         }
     }
     if count < 40 {
@@ -222,6 +230,174 @@ fn bounded() -> Vec<String> {
     }
     if outside(PANIC).is_some() {
         bad.push("a panic is not compared".into());
+    }
+    bad
+}
+
+/// A call, the Rust's answer to it and what a program must show.
+const SHOWN: [(&str, &str, &str); 4] = [
+    ("stp 0 0", "0 3 7680 | 0: | 8192#00000001", "0 3 7680 8192 | 0: | 8192#00000001"),
+    ("stp 2 7", "0 3 0 | 2:0707 | 512#00000001", "0 3 0 512 | 2:0707 | 512#00000001"),
+    ("run 4", "0 511 | 4 | 512#00000001 | 0: | 0 | 0", "0 511 512 | 4 | 512#00000001 | 0: | 0 | 0"),
+    ("run 1", "0 3 | 1 | 512#00000001 | 0: | 0 | 0", "0 3 512 | 1 | 512#00000001 | 0: | 0 | 0"),
+];
+
+/// Calls and answers that have nothing of the distinction.
+const WITHOUT: [(&str, &str); 14] = [
+    ("stp 0 0", "0 3 8192 | 0: | 8192#00000001"),
+    ("stp 0 0", "0 3 0 | 0: | 0:"),
+    ("stp 0 0", "0 3 1 3 | 0: | 0:"),
+    ("stp 0 0", "0 3 5:4d4f434b21 | 0: | 0:"),
+    ("stp 0 0", "0 3 | 0: | 0:"),
+    ("stp 0 0", "0 2 13 | 0: | 512#00000001"),
+    ("stp 0 0", "14 | 0: | 512#00000001"),
+    ("run 4", "0 512 | 4 | 512#00000001 | 0: | 0 | 0"),
+    ("run 4", "0 1 3 | 4 | 0: | 0: | 0 | 0"),
+    ("run 4", "28 | 4 | 512#00000001 | 0: | 0 | 0"),
+    ("giv x", "0 | 512#00000001"),
+    ("brd 512 0", "0 | 512#00000001 | 0: | 0 | 0"),
+    ("ust 4096 0", "0 3 | 4096#8af9dada"),
+    ("idx 3", "0 1 3"),
+];
+
+/// `USBS`.
+const SIGNATURE: &str = "x55534253";
+
+/// What the answers to the sample of `operations` must have, of a read and of a write, by a whole status.
+const BY_STATUS: [&str; 25] = [
+    "0 3 0 | 0: | 0:",
+    "14 | 0: | 0:",
+    "0 3 512 |",
+    "0 3 511 512 |",
+    "0 3 1 512 |",
+    "0 3 0 512 |",
+    "14 | 0: | 512#",
+    "0 3 8192 |",
+    "0 3 8191 8192 |",
+    "0 3 7681 8192 |",
+    "0 3 7680 8192 |",
+    "0 3 1 8192 |",
+    "0 3 0 8192 |",
+    "14 | 0: | 8192#",
+    "0 3 65535 65536 |",
+    "0 3 0 65536 |",
+    "14 | 0: | 65536#",
+    "0 0 | 1 | 0:",
+    "14 | 1 | 0:",
+    "0 512 | 1 |",
+    "0 511 512 | 1 |",
+    "0 0 512 | 1 |",
+    "14 | 1 | 512#",
+    "0 65535 65536 | 1 |",
+    "0 0 65536 | 1 |",
+];
+
+/// The same of one of them, by `USBS` alone.
+const BY_SIGNATURE: [(&str, &str); 9] = [
+    ("rdl", "12 128 | 0: | 512#"),
+    ("rdl", "12 128 | 0: | 0:"),
+    ("rdl", "12 128 | 1 | 512#"),
+    ("rdl", "12 128 | 1 | 0:"),
+    ("wrl", "0 3 0 1024 |"),
+    ("wrl", "0 3 0 | 0: | 0:"),
+    ("wrl", "0 0 512 | 1 |"),
+    ("wrl", "0 0 65536 | 1 |"),
+    ("wrl", "0 0 | 1 | 0:"),
+];
+
+fn distinguished() -> Vec<String> {
+    let mut bad = Vec::new();
+    for (line, rust, shown) in SHOWN.into_iter().chain(WITHOUT.map(|(line, same)| (line, same, same))) {
+        hold(&mut bad, line, &shows(line, rust), shown);
+        hold(&mut bad, line, &forgets(line, shown), rust);
+        if is_short(line, rust) != (rust != shown) || !is_same(line, rust, shown) {
+            bad.push(format!("{line}: {rust} and {shown}"));
+        }
+    }
+    ALL.into_iter().for_each(|kind| bad.extend(distinguished_in(kind)));
+    bad.extend(missing());
+    bad
+}
+
+/// On every line of a sample. Short transfers are in `operations` alone.
+fn distinguished_in(kind: Kind) -> Vec<String> {
+    let mut bad = Vec::new();
+    let mut oracle = Oracle::default();
+    let mut short = 0;
+    for line in cases_of(kind).concat() {
+        let rust = oracle.answer(&line);
+        hold(&mut bad, &line, &forgets(&line, &shows(&line, &rust)), &rust);
+        hold(&mut bad, &line, &forgets(&line, &rust), &rust);
+        short += usize::from(is_short(&line, &rust));
+    }
+    if (short > 0) != (kind == Kind::Operations) {
+        bad.push(format!("{}: short {short}", kind.name()));
+    }
+    bad
+}
+
+/// Of the answers that the sample of `operations` must have, those that it has not.
+fn missing() -> Vec<String> {
+    let both = ["rdl", "wrl"].into_iter().flat_map(|name| BY_STATUS.map(|answer| (name, false, answer)));
+    let mut wanted: Vec<_> = both.chain(BY_SIGNATURE.map(|(name, answer)| (name, true, answer))).collect();
+    let mut oracle = Oracle::default();
+    let (mut operation, mut is_signature) = (String::new(), false);
+    for line in cases_of(Kind::Operations).concat() {
+        let rust = oracle.answer(&line);
+        match line.split(' ').collect::<Vec<_>>()[..] {
+            ["opn", name, ..] => operation = name.into(),
+            ["giv", data, ..] => is_signature = data == SIGNATURE,
+            _ => wanted.retain(|(name, alone, answer)| {
+                *name != operation || *alone != is_signature || !shows(&line, &rust).starts_with(answer)
+            }),
+        }
+    }
+    let told = |alone| if alone { "USBS alone" } else { "a whole status" };
+    wanted.iter().map(|(name, alone, answer)| format!("no {answer} of {name} by {}", told(*alone))).collect()
+}
+
+/// What a transfer was by the Rust, and answers that are not that.
+fn told_wrongly() -> Vec<String> {
+    let mut bad = Vec::new();
+    for (line, rust, ours) in [
+        ("stp 0 0", "0 3 7680 | 0: | 8192#00000001", "0 3 7680 | 0: | 8192#00000001"),
+        ("stp 0 0", "0 3 7680 | 0: | 8192#00000001", "0 3 8192 7680 | 0: | 8192#00000001"),
+        ("stp 0 0", "0 3 7680 | 0: | 8192#00000001", "0 3 7680 512 | 0: | 8192#00000001"),
+        ("stp 0 0", "0 3 7680 | 0: | 8192#00000001", "0 3 15 16 | 0: | 8192#00000001"),
+        ("stp 0 0", "0 3 7680 | 0: | 8192#00000001", "0 3 7680 8192 8192 | 0: | 8192#00000001"),
+        ("stp 0 0", "0 3 8192 | 0: | 8192#00000001", "0 3 8192 8192 | 0: | 8192#00000001"),
+        ("stp 0 0", "0 3 0 | 0: | 0:", "0 3 0 0 | 0: | 0:"),
+        ("stp 0 0", "14 | 0: | 512#00000001", "0 3 0 512 | 0: | 512#00000001"),
+        ("run 4", "0 512 | 4 | 512#00000001 | 0: | 0 | 0", "0 511 512 | 4 | 512#00000001 | 0: | 0 | 0"),
+        ("run 4", "0 511 | 4 | 512#00000001 | 0: | 0 | 0", "0 511 | 4 | 512#00000001 | 0: | 0 | 0"),
+    ] {
+        if is_same(line, rust, ours) {
+            bad.push(format!("{line}: {rust} and {ours}"));
+        }
+    }
+    bad.extend(short_blocks());
+    bad
+}
+
+/// The rules' deck has a write of one sector: had it moved less, that would be short, and a run at scale would fail.
+fn short_blocks() -> Vec<String> {
+    let mut bad = Vec::new();
+    let block = &Kind::Decks.exhaustive()[1][3];
+    if !is_short(block, "2 0 511") || is_short(block, "2 0 512") || is_short(block, "2 57 -") {
+        bad.push(format!("short or not: {block}"));
+    }
+    for (kind, short, is_wrong) in [
+        (Kind::Operations, 0, true),
+        (Kind::Operations, LEAST_SHORT - 1, true),
+        (Kind::Operations, LEAST_SHORT, false),
+        (Kind::Runs, 0, false),
+        (Kind::Runs, 1, true),
+        (Kind::Decks, 1, true),
+        (Kind::Sizes, 1, true),
+    ] {
+        if wrong_short(kind, short).is_some() != is_wrong {
+            bad.push(format!("{}: short {short}", kind.name()));
+        }
     }
     bad
 }

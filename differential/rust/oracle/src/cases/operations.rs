@@ -2,11 +2,23 @@
 
 use super::{
     blocks::index_argument,
+    device::configured,
     make::{Case, Rng, any_data, damage, status_bytes, x},
     replies::storage_words,
 };
 
 const TAG: u32 = 0x0102_0304;
+
+/// Lengths of a sector operation's data, each with the residues of its rounds: whole, short by more and more, and above
+/// the length. The longest, which is the most that a line may name, is for counts past 16 bits.
+const TRANSFERS: [(usize, &[u32]); 3] = [
+    (512, &[0, 1, 511, 512, 513]),
+    (8192, &[0, 1, 511, 512, 8191, 8192, 8193]),
+    (65_536, &[1, 65_536, 65_537]),
+];
+
+/// The same of operations that a run finishes, short ones first.
+const RUN: [(usize, &[u32]); 3] = [(512, &[1, 512, 0, 513]), (65_536, &[1, 65_536]), (0, &[0, 1])];
 
 /// An operation's start and what it will ask for.
 #[derive(Clone)]
@@ -80,6 +92,11 @@ fn status(tag: u32, residue: u32, status: u8) -> Option<String> {
     Some(x(&status_bytes(tag, residue, status)))
 }
 
+/// A status of which `USBS` alone is given: the rest are the command's bytes.
+fn signature() -> Option<String> {
+    Some(x(b"USBS"))
+}
+
 pub fn exhaustive() -> Vec<Case> {
     let mut cases = Vec::new();
     for op in every_operation() {
@@ -89,8 +106,11 @@ pub fn exhaustive() -> Vec<Case> {
         cases.extend(givings(&op));
     }
     for op in other_operations() {
-        cases.push(case(&op, &[round(&op, None, status(TAG, 0, 0)), round(&op, None, status(TAG, 1, 0))]));
+        let given = [status(TAG, 0, 0), status(TAG, 1, 0), signature()];
+        cases.push(case(&op, &given.map(|status| round(&op, None, status))));
     }
+    cases.extend(transfers());
+    cases.push(finished_by_a_run());
     cases.extend(storage_replies());
     cases.extend(refused_starts());
     cases
@@ -167,6 +187,41 @@ fn givings(op: &Op) -> Vec<Case> {
     early.push(format!("giv {good}"));
     early.push("stp 65 3".into());
     vec![early]
+}
+
+/// A read and a write of so many bytes.
+fn sector_operations(len: usize) -> [Op; 2] {
+    let data = format!("64 f {len} 17");
+    [op("rdl", &data, len, 0), op("wrl", &data, 0, len)]
+}
+
+/// A sector operation round after round. (No bytes at all are among `other_operations`, `USBS` alone is among
+/// `statuses`.)
+fn transfers() -> Vec<Case> {
+    let mut cases = Vec::new();
+    for (len, residues) in TRANSFERS {
+        for op in sector_operations(len) {
+            let rounds = residues.iter().map(|residue| round(&op, None, status(TAG, *residue, 0)));
+            cases.push(case(&op, &rounds.collect::<Vec<_>>()));
+        }
+    }
+    cases
+}
+
+/// A run takes the last step only: it finishes by a status that no device gave. The last round has `USBS` alone.
+fn finished_by_a_run() -> Case {
+    let mut lines = vec![configured(0, "x")];
+    for (len, residues) in RUN {
+        for op in sector_operations(len) {
+            lines.push(op.start.clone());
+            for given in residues.iter().map(|residue| status(TAG, *residue, 0)).chain([signature()]) {
+                let steps = round(&op, None, given);
+                lines.extend_from_slice(&steps[..steps.len() - 1]);
+                lines.push("run 1".into());
+            }
+        }
+    }
+    lines
 }
 
 fn storage_replies() -> Vec<Case> {
