@@ -9,6 +9,7 @@ use Rattle.promise.specs.Rules.{orRefuse}
 use Rattle.promise.specs.Over.{over}
 use Rattle.protocol_codes.specs.Numbers.{resetNumber}
 use Rattle.protocol_codes.specs.declared.ResetOpcode.the-variants.{Reset, Maskrom}
+use Rattle.protocol_codes.specs.declared.Status.the-variants.{SUCCESS, FAILED}
 use Rattle.protocol.specs.Commands.{writeLbaCommand}
 use Rattle.protocol.specs.declared.CommandBlock.{CommandBlock}
 use Rattle.mock_areas.specs.Slots.{freshAreas, passes, firstAt, heldAt, place, areaFound}
@@ -17,16 +18,19 @@ use Rattle.mock_areas.specs.declared.AreaFound.{AreaFound}
 use Rattle.mock_areas.specs.declared.AreaFound.the-variants.{NotHeld, Held}
 use Rattle.mock_base.specs.Flash.{flashRules, flashSectors, fitsIn}
 use Rattle.mock_base.specs.Told.{resultTold}
-use Rattle.mock_table.specs.Turn.{refuses, done, hasCode, isOut, movedBy, replySize}
+use Rattle.mock_table.specs.Turn.{refuses, done, hasCode, isOut, replySize}
+use Rattle.mock_table.specs.Ways.{storedBy, movedBy}
 use Rattle.mock_table.specs.Table.{sectorTurn, writeIoTurn, writeRow, statusTurn, readRow}
 use Rattle.mock_table.specs.declared.session.CommandState.{CommandState}
 use Rattle.mock_table.specs.declared.session.CommandState.the-variants.{None, IO, Status}
 use Rattle.mock_table.specs.declared.session.LastReset.{LastReset}
 use Rattle.mock_table.specs.declared.session.LastReset.the-variants as reset
+use Rattle.mock_base.specs.declared.cells.Variety.{Variety}
+use Rattle.mock_base.specs.declared.cells.Variety.the-variants.{First, Nor}
 use Rattle.mock_base.specs.declared.config.MockDeviceConfig.{MockDeviceConfig}
-use Rattle.mock_effects.specs.Effects.{flashAfter}
-use Rattle.mock_effects.specs.Steps.{writeStepOf, writeStep, readStepOf, readStep}
-use Rattle.mock.specs.Device.{MockMeets, CreateMeets, created, freshState, writeBulk, readBulk, isUpload, controlRules, writeControl, maskromArea}
+use Rattle.mock_effects.specs.Effects.{flashAfter, pendingAfter}
+use Rattle.mock_effects.specs.Steps.{pend, failed, writeStepOf, writeStepBy, readStepOf, readStepBy}
+use Rattle.mock.specs.Device.{MockMeets, CreateMeets, createTold, created, freshState, writeBulk, readBulk, isUpload, controlRules, writeControl, maskromArea}
 use Rattle.mock.specs.declared.device.MockState.{MockState}
 use Rattle.mock.specs.declared.device.MockStep.{MockStep}
 
@@ -38,7 +42,7 @@ told r = number (resultTold (r .answer .result) (r .answer .signature))
 abbrev stateNumber : CommandState → ℕ
 stateNumber None = 0
 stateNumber (IO c) = 1
-stateNumber (Status c) = 2
+stateNumber (Status c status) = 2
 
 abbrev waits : MockState → ℕ
 waits s = stateNumber (s .«current_command»)
@@ -69,35 +73,35 @@ module _ (config : MockDeviceConfig) where
   -- a device with a store of 72 bytes, whose second slot is held by area 5 with three bytes
   abbrev device : CommandState → LastReset → MockState
   device state last =
-      record { config = config; areas = heldBy freshAreas 1 5 3; «store_length» = 72; «last_reset» = last; «current_command» = state }
+      record { config = config; variety = First; areas = heldBy freshAreas 1 5 3; «store_length» = 72; «last_reset» = last; «current_command» = state }
 
   -- `MockState::new`: the flash measured for the store
-  pub flash-measured-for-the-store : (r : MockStep) → r .state .«store_length» ≡ 512 → CreateMeets r (created config 512 72) → ⊥
+  pub flash-measured-for-the-store : (r : MockStep) → r .state .«store_length» ≡ 512 → CreateMeets r (created First config 512 72) → ⊥
   unfolding created freshState
   flash-measured-for-the-store r e meets =
       let z : _≡_ {A = ℕ} 512 72 = sym e ∙ ap (λ (s : MockState). s .«store_length») (meets .fresh) in omega arith
 
   -- 60 not told
-  pub flash-length-not-told : (r : MockStep) → told r ≡ 0 → CreateMeets r (created config 513 72) → ⊥
-  unfolding created number andThen flashSectors flashRules orRefuse
+  pub flash-length-not-told : (r : MockStep) → told r ≡ 0 → CreateMeets r (created First config 513 72) → ⊥
+  unfolding created createTold number andThen flashSectors flashRules orRefuse
   flash-length-not-told r e meets = let z : _≡_ {A = ℕ} 0 60 = sym e ∙ ap number (meets .tells .tells) in omega arith
 
   module _ (last : LastReset) where
     -- `MockState::write_bulk`: nothing written
     pub write-does-nothing : (r : MockStep) → MockMeets r flash (writeBulk (device (IO command) last) flash ones) → ⊥
-    unfolding writeBulk writeStep writeStepOf flashSectors flashRules orRefuse writeRow writeIoTurn sectorTurn isOut hasCode fitsIn done movedBy flashAfter over
+    unfolding writeBulk writeStepBy writeStepOf flashSectors flashRules orRefuse writeRow writeIoTurn sectorTurn isOut hasCode fitsIn done movedBy storedBy flashAfter over
     write-does-nothing r meets = let z : _≡_ {A = ℕ} 0 1 = ap (λ (l : List ℕ). getD l 0 0) (meets .leaves) in omega arith
 
     -- the transaction kept
-    pub write-keeps-transaction : (r : MockStep) (after : List ℕ) → r .state ≡ device (Status command) last
-        → MockMeets r after (writeBulk (device (Status command) last) flash ones) → ⊥
-    unfolding writeBulk writeStep writeStepOf flashSectors flashRules orRefuse writeRow refuses
+    pub write-keeps-transaction : (r : MockStep) (after : List ℕ) → r .state ≡ device (Status command SUCCESS) last
+        → MockMeets r after (writeBulk (device (Status command SUCCESS) last) flash ones) → ⊥
+    unfolding writeBulk writeStepBy writeStepOf flashSectors flashRules orRefuse writeRow refuses pendingAfter pend
     write-keeps-transaction r after e meets = let z : _≡_ {A = ℕ} 2 0 = sym (ap waits e) ∙ ap waits (meets .next) in omega arith
 
     -- `MockState::read_bulk`: the transaction kept
-    pub read-keeps-transaction : (r : MockStep) (after : List ℕ) → r .state ≡ device (Status command) last
-        → MockMeets r after (readBulk (device (Status command) last) flash []) → ⊥
-    unfolding readBulk readStep readStepOf flashSectors flashRules orRefuse readRow statusTurn replySize refuses
+    pub read-keeps-transaction : (r : MockStep) (after : List ℕ) → r .state ≡ device (Status command SUCCESS) last
+        → MockMeets r after (readBulk (device (Status command SUCCESS) last) flash []) → ⊥
+    unfolding readBulk readStepBy readStepOf flashSectors flashRules orRefuse readRow statusTurn replySize refuses
     read-keeps-transaction r after e meets = let z : _≡_ {A = ℕ} 2 0 = sym (ap waits e) ∙ ap waits (meets .next) in omega arith
 
     -- `MockState::write_control`: another request type taken
@@ -129,7 +133,7 @@ module _ (config : MockDeviceConfig) where
   -- `MockState::read_bulk`: the reset forgotten
   pub read-forgets-reset : (r : MockStep) (after : List ℕ) → r .state .«last_reset» ≡ reset.None
       → MockMeets r after (readBulk (device None (reset.Some Maskrom)) flash []) → ⊥
-  unfolding readBulk readStep readStepOf flashSectors flashRules orRefuse readRow refuses
+  unfolding readBulk readStepBy readStepOf flashSectors flashRules orRefuse readRow refuses
   read-forgets-reset r after e meets =
       let z : _≡_ {A = ℕ} 5 3 = sym (ap resetTold e) ∙ ap (λ (s : MockState). resetTold (s .«last_reset»)) (meets .next) in omega arith
 

@@ -6,7 +6,7 @@ use mathlib.Core.List.{List, [], _∷_}
 use lib.Dec.{eqb}
 use lib.ListN.{length}
 use Rattle.promise.specs.Told.{Told, given, refused, andThen}
-use Rattle.promise.specs.Rules.{Rule, rule, pick, orRefuse}
+use Rattle.promise.specs.Rules.{Rule, rule, pick, unless, orRefuse}
 use Rattle.mock_areas.specs.Slots.{freshAreas, areaFound}
 use Rattle.mock_areas.specs.Append.{appendStep}
 use Rattle.mock_areas.specs.declared.Areas.{Areas}
@@ -16,7 +16,9 @@ use Rattle.mock_base.specs.Flash.{flashSectors}
 use Rattle.mock_table.specs.declared.session.Session.{Session}
 use Rattle.mock_table.specs.declared.session.CommandState.the-variants as state
 use Rattle.mock_table.specs.declared.session.LastReset.the-variants as reset
-use Rattle.mock_effects.specs.Steps.{Step, writeStep, readStep}
+use Rattle.mock_effects.specs.Steps.{Step, writeStepBy, readStepBy}
+use Rattle.mock_base.specs.declared.cells.Variety.{Variety}
+use Rattle.mock_base.specs.declared.cells.Variety.the-variants.{First, Nor}
 use Rattle.mock_base.specs.declared.config.MockDeviceConfig.{MockDeviceConfig}
 use Rattle.mock.specs.declared.device.MockState.{MockState}
 use Rattle.mock.specs.declared.device.MockStep.{MockStep}
@@ -42,14 +44,30 @@ pub record CreateMeets (r : MockStep) (c : Creation) : Type 0 where
   pub fresh : r .state ≡ c .fresh
 
 -- no area held, no reset, no transaction
-unfoldable pub freshState : MockDeviceConfig → ℕ → MockState
-freshState config storeLength =
-    record { config = config; areas = freshAreas; «store_length» = storeLength; «last_reset» = reset.None; «current_command» = state.None }
+unfoldable pub freshState : Variety → MockDeviceConfig → ℕ → MockState
+freshState v config storeLength =
+    record {
+      config = config;
+      variety = v;
+      areas = freshAreas;
+      «store_length» = storeLength;
+      «last_reset» = reset.None;
+      «current_command» = state.None;
+    }
 
--- 60 and 61 at creation; beside a refusal stands the record as if unrefused
-unfoldable pub created : MockDeviceConfig → ℕ → ℕ → Creation
-created config flashLength storeLength =
-    record { told = andThen (flashSectors flashLength) (λ sectors. given tt); fresh = freshState config storeLength }
+-- 62: block size 0, of NOR alone
+unfoldable pub blockRules : Variety → ℕ → List Rule
+blockRules First block = []
+blockRules Nor block = rule (eqb block 0) 62 [] ∷ []
+
+-- 60 and 61 at creation, then 62
+unfoldable pub createTold : Variety → ℕ → ℕ → Told Unit
+createTold v block flashLength = andThen (flashSectors flashLength) (λ sectors. unless (blockRules v block) (given tt))
+
+-- beside a refusal stands the record as if unrefused
+unfoldable pub created : Variety → MockDeviceConfig → ℕ → ℕ → Creation
+created v config flashLength storeLength =
+    record { told = createTold v (config .«block_size_sectors») flashLength; fresh = freshState v config storeLength }
 
 abbrev pub sessionOf : MockState → Session
 sessionOf s = record { «current_command» = s .«current_command»; «last_reset» = s .«last_reset» }
@@ -59,6 +77,7 @@ abbrev pub withSession : MockState → Session → MockState
 withSession s session =
     record {
       config = s .config;
+      variety = s .variety;
       areas = s .areas;
       «store_length» = s .«store_length»;
       «last_reset» = session .«last_reset»;
@@ -69,21 +88,22 @@ abbrev pub withAreas : MockState → Areas → MockState
 withAreas s areas =
     record {
       config = s .config;
+      variety = s .variety;
       areas = areas;
       «store_length» = s .«store_length»;
       «last_reset» = s .«last_reset»;
       «current_command» = s .«current_command»;
     }
 
--- a bulk call is a step of the session
+-- a bulk call is a step of the session, at a flash of the record's variety and configured block size
 abbrev pub bulk : MockState → Step → Call
 bulk s step = record { told = step .told; next = withSession s (step .next); leaves = step .leaves }
 
 unfoldable pub writeBulk : MockState → List ℕ → List ℕ → Call
-writeBulk s flash bytes = bulk s (writeStep (sessionOf s) flash bytes)
+writeBulk s flash bytes = bulk s (writeStepBy (s .variety) (s .config .«block_size_sectors») (sessionOf s) flash bytes)
 
 unfoldable pub readBulk : MockState → List ℕ → List ℕ → Call
-readBulk s flash buffer = bulk s (readStep (sessionOf s) (s .config) flash buffer)
+readBulk s flash buffer = bulk s (readStepBy (s .variety) (sessionOf s) (s .config) flash buffer)
 
 -- type 0x40, request 0xc, value 0
 unfoldable pub isUpload : ℕ → ℕ → ℕ → Bool

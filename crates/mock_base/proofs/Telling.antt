@@ -8,7 +8,7 @@ use Rattle.protocol.specs.declared.CommandBlockParseError.the-variants.{Invalid
 use Rattle.mock_base.specs.Told.{errorTold, errorValues, resultTold, innerSignature, signatureBeside, Answers}
 use Rattle.mock_base.specs.Flash.{sizeTold, sizeDone}
 use Rattle.mock_base.specs.declared.error.MockTransportError.{MockTransportError}
-use Rattle.mock_base.specs.declared.error.MockTransportError.the-variants.{InvalidTransferLength, UnsupportedControl, InvalidReset, UnknownCommand, UnexpectedRead, UnexpectedWrite, CommandBlockError, OutOfRange, NoSlot, SlotFull, FlashSize, TooManySectors, StoreLength}
+use Rattle.mock_base.specs.declared.error.MockTransportError.the-variants.{InvalidTransferLength, UnsupportedControl, InvalidReset, UnknownCommand, UnexpectedRead, UnexpectedWrite, CommandBlockError, OutOfRange, NoSlot, SlotFull, FlashSize, TooManySectors, ZeroBlockSize, UnalignedErase, StoreLength}
 use Rattle.mock_base.specs.declared.error.MockResult.the-variants.{Done, Refused}
 use Rattle.mock_base.specs.declared.range.FlashSectors.{FlashSectors}
 use Rattle.mock_base.specs.declared.range.FlashSectors.the-variants as size
@@ -31,6 +31,8 @@ beside-error NoSlot = refl
 beside-error SlotFull = refl
 beside-error (FlashSize n) = refl
 beside-error TooManySectors = refl
+beside-error ZeroBlockSize = refl
+beside-error UnalignedErase = refl
 beside-error StoreLength = refl
 
 pub answers-error : (error : MockTransportError) (told : Told Unit) → errorTold error noSignature ≡ told

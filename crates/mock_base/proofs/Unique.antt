@@ -24,7 +24,7 @@ use Rattle.mock_base.specs.declared.range.RangeAnswer.the-variants.{With
 use Rattle.mock_base.specs.declared.range.RangeAnswer.the-variants as fit
 use Rattle.mock_base.specs.Told.{errorNumber, errorValues, resultTold, Answers}
 use Rattle.mock_base.specs.declared.error.MockTransportError.{MockTransportError}
-use Rattle.mock_base.specs.declared.error.MockTransportError.the-variants.{InvalidTransferLength, UnsupportedControl, InvalidReset, UnknownCommand, UnexpectedRead, UnexpectedWrite, CommandBlockError, OutOfRange, NoSlot, SlotFull, FlashSize, TooManySectors, StoreLength}
+use Rattle.mock_base.specs.declared.error.MockTransportError.the-variants.{InvalidTransferLength, UnsupportedControl, InvalidReset, UnknownCommand, UnexpectedRead, UnexpectedWrite, CommandBlockError, OutOfRange, NoSlot, SlotFull, FlashSize, TooManySectors, ZeroBlockSize, UnalignedErase, StoreLength}
 use Rattle.mock_base.specs.declared.error.MockResult.{MockResult}
 use Rattle.mock_base.specs.declared.error.MockResult.the-variants.{Done, Refused}
 use Rattle.mock_base.specs.declared.error.MockAnswer.{MockAnswer}
@@ -44,7 +44,8 @@ errorFrom n a b c =
     pick (eqb n 50) (InvalidTransferLength a b) (pick (eqb n 51) (UnsupportedControl a b c) (pick (eqb n 52) (InvalidReset a)
     (pick (eqb n 53) (UnknownCommand (codeIn (codeOf a))) (pick (eqb n 54) UnexpectedRead (pick (eqb n 55) UnexpectedWrite
     (pick (eqb n 56) (CommandBlockError (innerFrom a b)) (pick (eqb n 57) OutOfRange (pick (eqb n 58) NoSlot (pick (eqb n 59) SlotFull
-    (pick (eqb n 60) (FlashSize a) (pick (eqb n 61) TooManySectors StoreLength)))))))))))
+    (pick (eqb n 60) (FlashSize a) (pick (eqb n 61) TooManySectors (pick (eqb n 62) ZeroBlockSize (pick (eqb n 63) UnalignedErase
+    StoreLength)))))))))))))
 
 abbrev errorIn : ℕ → List ℕ → MockTransportError
 errorIn number values = errorFrom number (getD values 0 0) (getD values 1 0) (getD values 2 0)
@@ -71,6 +72,8 @@ error-from NoSlot signature = refl
 error-from SlotFull signature = refl
 error-from (FlashSize n) signature = refl
 error-from TooManySectors signature = refl
+error-from ZeroBlockSize signature = refl
+error-from UnalignedErase signature = refl
 error-from StoreLength signature = refl
 
 unfoldable pub resultFrom : Told Unit → MockResult

@@ -19,8 +19,8 @@ use Rattle.mock_base.specs.declared.range.RangeAnswer.the-variants.{With
 pub one-number-for-two : (n : ℕ) → n ≡ errorNumber UnexpectedRead → n ≡ errorNumber UnexpectedWrite → ⊥
 one-number-for-two n first second = omega arith
 
--- the store's 65 counted on from 61
-pub numbers-counted-on : 62 ≡ errorNumber StoreLength → ⊥
+-- the store's 65 counted on from 63
+pub numbers-counted-on : 64 ≡ errorNumber StoreLength → ⊥
 numbers-counted-on e = omega arith
 
 -- `MockResult::number`: one number whatever came

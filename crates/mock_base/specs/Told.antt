@@ -9,7 +9,7 @@ use Rattle.protocol_codes.specs.Numbers.{codeNumber}
 use Rattle.protocol_bytes.specs.Signature.{noSignature, signatureIn}
 use Rattle.protocol.specs.CommandMeets.{commandErrorNumber, commandErrorValues}
 use Rattle.mock_base.specs.declared.error.MockTransportError.{MockTransportError}
-use Rattle.mock_base.specs.declared.error.MockTransportError.the-variants.{InvalidTransferLength, UnsupportedControl, InvalidReset, UnknownCommand, UnexpectedRead, UnexpectedWrite, CommandBlockError, OutOfRange, NoSlot, SlotFull, FlashSize, TooManySectors, StoreLength}
+use Rattle.mock_base.specs.declared.error.MockTransportError.the-variants.{InvalidTransferLength, UnsupportedControl, InvalidReset, UnknownCommand, UnexpectedRead, UnexpectedWrite, CommandBlockError, OutOfRange, NoSlot, SlotFull, FlashSize, TooManySectors, ZeroBlockSize, UnalignedErase, StoreLength}
 use Rattle.mock_base.specs.declared.error.MockResult.{MockResult}
 use Rattle.mock_base.specs.declared.error.MockResult.the-variants.{Done, Refused}
 use Rattle.mock_base.specs.declared.error.MockAnswer.{MockAnswer}
@@ -27,6 +27,8 @@ errorNumber NoSlot = 58
 errorNumber SlotFull = 59
 errorNumber (FlashSize n) = 60
 errorNumber TooManySectors = 61
+errorNumber ZeroBlockSize = 62
+errorNumber UnalignedErase = 63
 errorNumber StoreLength = 65
 
 -- 56 tells the number of the block's refusal and its values; the second argument is the signature beside the error
@@ -43,6 +45,8 @@ errorValues NoSlot signature = []
 errorValues SlotFull signature = []
 errorValues (FlashSize n) signature = n ∷ []
 errorValues TooManySectors signature = []
+errorValues ZeroBlockSize signature = []
+errorValues UnalignedErase signature = []
 errorValues StoreLength signature = []
 
 abbrev pub errorTold : {A : Type 0} → MockTransportError → List ℕ → Told A

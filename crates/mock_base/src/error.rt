@@ -1,4 +1,4 @@
-// The stand-in's answers: done, or one of the refusals 50 to 61 and 65.
+// The stand-in's answers: done, or one of the refusals 50 to 63 and 65.
 use protocol::CommandBlockParseError;
 use protocol_codes::CommandCode;
 ghost use mathlib.Core.Path.{_≡_};
@@ -39,6 +39,10 @@ pub enum MockTransportError {
     FlashSize(usize),
     // 61
     TooManySectors,
+    // 62, of a head with NOR flash alone
+    ZeroBlockSize,
+    // 63, of a head with NOR flash alone
+    UnalignedErase,
     // 65
     StoreLength,
 }
@@ -78,6 +82,8 @@ impl MockTransportError {
             MockTransportError::SlotFull => 59,
             MockTransportError::FlashSize(_) => 60,
             MockTransportError::TooManySectors => 61,
+            MockTransportError::ZeroBlockSize => 62,
+            MockTransportError::UnalignedErase => 63,
             MockTransportError::StoreLength => 65,
         }
     }

@@ -1,10 +1,10 @@
 -- What callers may rely on: a refused call leaves all lent bytes; a write or an erase touches the sectors of its command only.
 use Prim.Native.Nat.{ℕ, _+_, _*_, _/_, _≤_}
-use mathlib.Core.Path.{_≡_, refl, ap, sym, subst}
+use mathlib.Core.Path.{_≡_, refl, ap, ap₂, sym, subst, _∙_}
 use mathlib.Core.Logic.{_⊎_, inl, inr, ⊎-elim}
 use mathlib.Core.List.{List}
 use native.Mathlib.Omega.{arith}
-use lib.ListN.{length, replicate, length-replicate}
+use lib.ListN.{length, drop, replicate, length-replicate}
 use Rattle.promise.specs.Told.{Told, given, refused}
 use Rattle.promise.specs.Bytes.{field}
 use Rattle.protocol_bytes.specs.Sector.{sectorSize}
@@ -17,39 +17,43 @@ use Rattle.mock_table.specs.Turn.{EffectFits}
 use Rattle.mock_table.specs.Table.{rangeOf, writeTurn}
 use Rattle.mock_table.specs.declared.session.Session.{Session}
 use Rattle.mock_table.specs.declared.outcome.Effect.{Effect}
-use Rattle.mock_table.specs.declared.outcome.Effect.the-variants.{Nothing, Fill, Store, Supply, Reply}
+use Rattle.mock_table.specs.declared.outcome.Effect.the-variants.{Nothing, Fill, Store, Program, Supply, Reply}
 use Rattle.mock_table.proofs.Sane.{write-sane, read-sane}
 use Rattle.mock_table.proofs.Own.{Within, commandOf, write-own}
-use Rattle.mock_effects.specs.Effects.{erased, flashAfter, bufferAfter}
-use Rattle.mock_effects.specs.Steps.{writeStepOf, writeStep, readStepOf, readStep, Untouched}
+use Rattle.protocol_codes.specs.declared.Status as pending
+use Rattle.protocol_codes.specs.declared.Status.the-variants.{SUCCESS, FAILED}
+use Rattle.mock_effects.specs.Effects.{erased, programmed, flashAfter, pendingAfter, bufferAfter}
+use Rattle.mock_effects.specs.Steps.{failed, pend, pended, writeStepOf, writeStepBy, readStepOf, readStepBy, Untouched}
+use Rattle.mock_base.specs.declared.cells.Variety.{Variety}
 use Rattle.mock_base.specs.declared.config.MockDeviceConfig.{MockDeviceConfig}
 use Rattle.mock_effects.proofs.Lengths.{taken}
+use Rattle.mock_effects.proofs.Programming.{length-programmed}
 
-write-refused-of : (t : Told ℕ) (s : Session) (flash bytes : List ℕ) (n : ℕ) (values : List ℕ) → writeStepOf t s flash bytes .told ≡ refused n values
-    → Untouched s flash (writeStepOf t s flash bytes)
-unfolding writeStepOf flashAfter
-write-refused-of (refused m vs) s flash bytes n values e = record { leaves = refl; next = inl refl }
-write-refused-of (given sectors) s flash bytes n values e =
-    let ended = write-sane s sectors bytes .ends n values e in
-    record { leaves = ap (λ (x : Effect). flashAfter x bytes flash) (ended .1); next = inr (ended .0) }
+write-refused-of : (t : Told ℕ) (v : Variety) (block : ℕ) (s : Session) (flash bytes : List ℕ) (n : ℕ) (values : List ℕ) → writeStepOf t v block s flash bytes .told ≡ refused n values
+    → Untouched s flash (writeStepOf t v block s flash bytes)
+unfolding writeStepOf flashAfter pendingAfter pend
+write-refused-of (refused m vs) v block s flash bytes n values e = record { leaves = refl; next = inl refl }
+write-refused-of (given sectors) v block s flash bytes n values e =
+    let ended = write-sane v block s sectors bytes .ends n values e in
+    record { leaves = ap (λ (x : Effect). flashAfter x bytes flash) (ended .1); next = inr (ap₂ pended (ap (λ (x : Effect). pendingAfter x bytes flash) (ended .1)) (ended .0)) }
 
-pub write-refused : (s : Session) (flash bytes : List ℕ) (n : ℕ) (values : List ℕ) → writeStep s flash bytes .told ≡ refused n values
-    → Untouched s flash (writeStep s flash bytes)
-unfolding writeStep
-write-refused s flash bytes n values e = write-refused-of (flashSectors (length flash)) s flash bytes n values e
+pub write-refused : (v : Variety) (block : ℕ) (s : Session) (flash bytes : List ℕ) (n : ℕ) (values : List ℕ) → writeStepBy v block s flash bytes .told ≡ refused n values
+    → Untouched s flash (writeStepBy v block s flash bytes)
+unfolding writeStepBy
+write-refused v block s flash bytes n values e = write-refused-of (flashSectors (length flash)) v block s flash bytes n values e
 
-read-refused-of : (t : Told ℕ) (s : Session) (config : MockDeviceConfig) (flash buffer : List ℕ) (n : ℕ) (values : List ℕ)
-    → readStepOf t s config flash buffer .told ≡ refused n values → Untouched s buffer (readStepOf t s config flash buffer)
+read-refused-of : (t : Told ℕ) (v : Variety) (s : Session) (config : MockDeviceConfig) (flash buffer : List ℕ) (n : ℕ) (values : List ℕ)
+    → readStepOf t v s config flash buffer .told ≡ refused n values → Untouched s buffer (readStepOf t v s config flash buffer)
 unfolding readStepOf bufferAfter
-read-refused-of (refused m vs) s config flash buffer n values e = record { leaves = refl; next = inl refl }
-read-refused-of (given sectors) s config flash buffer n values e =
-    let ended = read-sane s sectors (length buffer) .ends n values e in
+read-refused-of (refused m vs) v s config flash buffer n values e = record { leaves = refl; next = inl refl }
+read-refused-of (given sectors) v s config flash buffer n values e =
+    let ended = read-sane v s sectors (length buffer) .ends n values e in
     record { leaves = ap (λ (x : Effect). bufferAfter config x flash buffer) (ended .1); next = inr (ended .0) }
 
-pub read-refused : (s : Session) (config : MockDeviceConfig) (flash buffer : List ℕ) (n : ℕ) (values : List ℕ)
-    → readStep s config flash buffer .told ≡ refused n values → Untouched s buffer (readStep s config flash buffer)
-unfolding readStep
-read-refused s config flash buffer n values e = read-refused-of (flashSectors (length flash)) s config flash buffer n values e
+pub read-refused : (v : Variety) (s : Session) (config : MockDeviceConfig) (flash buffer : List ℕ) (n : ℕ) (values : List ℕ)
+    → readStepBy v s config flash buffer .told ≡ refused n values → Untouched s buffer (readStepBy v s config flash buffer)
+unfolding readStepBy
+read-refused v s config flash buffer n values e = read-refused-of (flashSectors (length flash)) v s config flash buffer n values e
 
 -- parts of a flash beside a range, before it or behind it
 pub Beside : FlashRange → ℕ → ℕ → Type 0
@@ -76,25 +80,28 @@ beside-effect range (Fill r) bytes flash own fits a n apart =
     (subst (λ (x : FlashRange). Beside x a n) (sym own) apart)
 beside-effect range (Store r) bytes flash own fits a n apart =
     over-beside r bytes flash (fits .0) (fits .1) a n (subst (λ (x : FlashRange). Beside x a n) (sym own) apart)
+beside-effect range (Program r) bytes flash own fits a n apart =
+    let now = programmed bytes (drop (r .first * sectorSize) flash) in
+    over-beside r now flash (fits .0) (length-programmed bytes (drop (r .first * sectorSize) flash) ∙ fits .1) a n (subst (λ (x : FlashRange). Beside x a n) (sym own) apart)
 beside-effect range (Supply r) bytes flash own fits a n apart = refl
 beside-effect range (Reply kind) bytes flash own fits a n apart = refl
 
 -- a write or erase touches its own sectors only
-write-beside-of : (t : Told ℕ) (s : Session) (flash bytes : List ℕ) → flashSectors (length flash) ≡ t → (c : CommandBlock)
+write-beside-of : (t : Told ℕ) (v : Variety) (block : ℕ) (s : Session) (flash bytes : List ℕ) → flashSectors (length flash) ≡ t → (c : CommandBlock)
     → commandOf (s .«current_command») bytes ≡ given c → (a n : ℕ) → Beside (rangeOf c) a n
-    → field a n (writeStepOf t s flash bytes .leaves) ≡ field a n flash
+    → field a n (writeStepOf t v block s flash bytes .leaves) ≡ field a n flash
 unfolding writeStepOf
-write-beside-of (refused m vs) s flash bytes size c e a n apart = refl
-write-beside-of (given sectors) s flash bytes size c e a n apart =
+write-beside-of (refused m vs) v block s flash bytes size c e a n apart = refl
+write-beside-of (given sectors) v block s flash bytes size c e a n apart =
     let h = taken (length flash) sectors size in
-    let turn = writeTurn s sectors bytes in
-    beside-effect (rangeOf c) (turn .effect) bytes flash (write-own s sectors bytes c e)
-    (subst (λ (k : ℕ). EffectFits k (length bytes) (turn .effect)) (sym (h .0)) (write-sane s sectors bytes .fits)) a n apart
+    let turn = writeTurn v block s sectors bytes in
+    beside-effect (rangeOf c) (turn .effect) bytes flash (write-own v block s sectors bytes c e)
+    (subst (λ (k : ℕ). EffectFits k (length bytes) (turn .effect)) (sym (h .0)) (write-sane v block s sectors bytes .fits)) a n apart
 
-pub write-beside : (s : Session) (flash bytes : List ℕ) (c : CommandBlock) → commandOf (s .«current_command») bytes ≡ given c
-    → (a n : ℕ) → Beside (rangeOf c) a n → field a n (writeStep s flash bytes .leaves) ≡ field a n flash
-unfolding writeStep
-write-beside s flash bytes c e a n apart = write-beside-of (flashSectors (length flash)) s flash bytes refl c e a n apart
+pub write-beside : (v : Variety) (block : ℕ) (s : Session) (flash bytes : List ℕ) (c : CommandBlock) → commandOf (s .«current_command») bytes ≡ given c
+    → (a n : ℕ) → Beside (rangeOf c) a n → field a n (writeStepBy v block s flash bytes .leaves) ≡ field a n flash
+unfolding writeStepBy
+write-beside v block s flash bytes c e a n apart = write-beside-of (flashSectors (length flash)) v block s flash bytes refl c e a n apart
 
 -- and no call changes the flash's length
 effect-long : (effect : Effect) (bytes flash : List ℕ) → EffectFits (length flash / sectorSize) (length bytes) effect
@@ -105,19 +112,22 @@ effect-long (Fill r) bytes flash fits =
     let n = length-replicate (r .count * sectorSize) erased in
     length-over (r .first * sectorSize) (replicate (r .count * sectorSize) erased) flash (omega (arith, n))
 effect-long (Store r) bytes flash fits = length-over (r .first * sectorSize) bytes flash (omega (arith, fits .0, fits .1))
+effect-long (Program r) bytes flash fits =
+    let now = programmed bytes (drop (r .first * sectorSize) flash) in
+    length-over (r .first * sectorSize) now flash (omega (arith, fits .0, fits .1, length-programmed bytes (drop (r .first * sectorSize) flash)))
 effect-long (Supply r) bytes flash fits = refl
 effect-long (Reply kind) bytes flash fits = refl
 
-write-long-of : (t : Told ℕ) (s : Session) (flash bytes : List ℕ) → flashSectors (length flash) ≡ t
-    → length (writeStepOf t s flash bytes .leaves) ≡ length flash
+write-long-of : (t : Told ℕ) (v : Variety) (block : ℕ) (s : Session) (flash bytes : List ℕ) → flashSectors (length flash) ≡ t
+    → length (writeStepOf t v block s flash bytes .leaves) ≡ length flash
 unfolding writeStepOf
-write-long-of (refused m vs) s flash bytes size = refl
-write-long-of (given sectors) s flash bytes size =
+write-long-of (refused m vs) v block s flash bytes size = refl
+write-long-of (given sectors) v block s flash bytes size =
     let h = taken (length flash) sectors size in
-    let turn = writeTurn s sectors bytes in
+    let turn = writeTurn v block s sectors bytes in
     effect-long (turn .effect) bytes flash
-    (subst (λ (k : ℕ). EffectFits k (length bytes) (turn .effect)) (sym (h .0)) (write-sane s sectors bytes .fits))
+    (subst (λ (k : ℕ). EffectFits k (length bytes) (turn .effect)) (sym (h .0)) (write-sane v block s sectors bytes .fits))
 
-pub write-long : (s : Session) (flash bytes : List ℕ) → length (writeStep s flash bytes .leaves) ≡ length flash
-unfolding writeStep
-write-long s flash bytes = write-long-of (flashSectors (length flash)) s flash bytes refl
+pub write-long : (v : Variety) (block : ℕ) (s : Session) (flash bytes : List ℕ) → length (writeStepBy v block s flash bytes .leaves) ≡ length flash
+unfolding writeStepBy
+write-long v block s flash bytes = write-long-of (flashSectors (length flash)) v block s flash bytes refl

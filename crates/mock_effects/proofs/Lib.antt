@@ -1,6 +1,7 @@
 -- `Filling` has the laws of a fill that is under way, `Lengths` what the length of a lent flash tells, `Frames` what a bulk call leaves alone,
 -- `ReadBack` that what was written is read, `Unique` that answers allowed by one contract are equal, `Wrong` programs that the contracts rule out.
 pub mod Filling
+pub mod Programming
 pub mod Lengths
 pub mod Frames
 pub mod ReadBack

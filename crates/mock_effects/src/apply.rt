@@ -9,14 +9,17 @@ use protocol_codes::Status;
 use protocol_status::report::CommandStatus;
 ghost use mathlib.Core.Path.{_≡_};
 ghost use Prim.Native.Nat.{_+_, _*_, _/_, _≤_};
-ghost use lib.ListN.{length, replicate};
+ghost use lib.ListN.{length, drop, replicate};
 ghost use Rattle.promise.specs.Bytes.{front, field};
 ghost use Rattle.promise.specs.Over.{over};
 ghost use Rattle.protocol_bytes.specs.Sector.{sectorSize};
 ghost use Rattle.mock_table.specs.Turn.{EffectFits, replySize};
-ghost use Rattle.mock_effects.specs.Effects.{erased, flashAfter, replyBytes, bufferAfter};
+ghost use Rattle.mock_effects.specs.Effects.{erased, programmed, cellsTold, flashAfter, pendingAfter, replyBytes, bufferAfter};
 
 const ERASED: u8 = 0xFF;
+
+// Little-endian, bit 4 set.
+const NOR_STORAGE: [u8; 4] = [0x10, 0, 0, 0];
 
 fn fill(part: &mut [u8])
     ensures { λ _. ⌜ now (part .exit) ≡ replicate (length (now (part .entry))) erased ⌝ }
@@ -44,6 +47,42 @@ fn store(range: FlashRange, flash: &mut [u8], data: &[u8])
 {
     let start = (range.first as usize) * (SECTOR_SIZE as usize);
     bytes::copy(data, &mut flash[start..]);
+}
+
+// Whether clearing bits alone makes each byte the one asked.
+fn cells_told(old: &[u8], asked: &[u8]) -> Status
+    requires { ⌜ length (now asked) ≤ length (now old) ⌝ }
+    ensures { λ r. ⌜ r ≡ cellsTold (now (asked .entry)) (now (old .entry)) ⌝ }
+{
+    let mut i = 0;
+    while i < asked.len() {
+        if old[i] & asked[i] != asked[i] {
+            return Status::FAILED;
+        }
+        i += 1;
+    }
+    Status::SUCCESS
+}
+
+fn clear_bits(part: &mut [u8], asked: &[u8])
+    requires { ⌜ length (now asked) ≤ length (now part) ⌝ }
+    ensures { λ _. ⌜ now (part .exit) ≡ front (programmed (now (asked .entry)) (now (part .entry))) (now (part .entry)) ⌝ }
+{
+    let mut i = 0;
+    while i < asked.len() {
+        part[i] = part[i] & asked[i];
+        i += 1;
+    }
+}
+
+fn program(range: FlashRange, flash: &mut [u8], data: &[u8]) -> Status
+    requires { ⌜ range .first * sectorSize + length (now «data») ≤ length (now flash) ⌝ }
+    ensures { λ r. ⌜ (r ≡ cellsTold (now («data» .entry)) (drop (range .first * sectorSize) (now (flash .entry)))) × (now (flash .exit) ≡ over (range .first * sectorSize) (programmed (now («data» .entry)) (drop (range .first * sectorSize) (now (flash .entry)))) (now (flash .entry))) ⌝ }
+{
+    let start = (range.first as usize) * (SECTOR_SIZE as usize);
+    let pending = cells_told(&flash[start..], data);
+    clear_bits(&mut flash[start..], data);
+    pending
 }
 
 fn supply(range: FlashRange, flash: &[u8], data: &mut [u8])
@@ -77,27 +116,39 @@ fn reply(config: MockDeviceConfig, sectors: u32, kind: ReplyKind, data: &mut [u8
             let capability = config.capability;
             bytes::copy(&capability, data);
         }
-        ReplyKind::Status(tag) => {
+        ReplyKind::Storage => {
+            let storage = NOR_STORAGE;
+            bytes::copy(&storage, data);
+        }
+        ReplyKind::Status(tag, pending) => {
             let status = CommandStatus {
                 tag: tag,
                 residue: 0,
-                status: Status::SUCCESS,
+                status: pending,
             };
             status.to_bytes(data);
         }
     }
 }
 
-pub(crate) fn apply_to_flash(effect: Effect, flash: &mut [u8], data: &[u8])
+// The status that the command which the effect is of is then told.
+pub(crate) fn apply_to_flash(effect: Effect, flash: &mut [u8], data: &[u8]) -> Status
     requires { ⌜ EffectFits (length (now flash) / sectorSize) (length (now «data»)) effect ⌝ }
-    ensures { λ _. ⌜ now (flash .exit) ≡ flashAfter effect (now («data» .entry)) (now (flash .entry)) ⌝ }
+    ensures { λ r. ⌜ (r ≡ pendingAfter effect (now («data» .entry)) (now (flash .entry))) × (now (flash .exit) ≡ flashAfter effect (now («data» .entry)) (now (flash .entry))) ⌝ }
 {
     match effect {
-        Effect::Fill(range) => erase(range, flash),
-        Effect::Store(range) => store(range, flash, data),
-        Effect::Nothing => {}
-        Effect::Supply(_) => {}
-        Effect::Reply(_) => {}
+        Effect::Fill(range) => {
+            erase(range, flash);
+            Status::SUCCESS
+        }
+        Effect::Store(range) => {
+            store(range, flash, data);
+            Status::SUCCESS
+        }
+        Effect::Program(range) => program(range, flash, data),
+        Effect::Nothing => Status::SUCCESS,
+        Effect::Supply(_) => Status::SUCCESS,
+        Effect::Reply(_) => Status::SUCCESS,
     }
 }
 
@@ -121,5 +172,6 @@ pub(crate) fn apply_to_buffer(
         Effect::Nothing => {}
         Effect::Fill(_) => {}
         Effect::Store(_) => {}
+        Effect::Program(_) => {}
     }
 }

@@ -3,6 +3,7 @@ mod apply;
 
 use apply::apply_to_buffer;
 use apply::apply_to_flash;
+use mock_base::cells::Variety;
 use mock_base::config::MockDeviceConfig;
 use mock_base::error::MockAnswer;
 use mock_base::range::FlashSectors;
@@ -10,17 +11,58 @@ use mock_base::range::flash_sectors;
 use mock_base::range::size_answer;
 use mock_table::outcome::Outcome;
 use mock_table::reading::read_outcome;
+use mock_table::session::CommandState;
 use mock_table::session::Session;
 use mock_table::writing::write_outcome;
-ghost use Rattle.mock_effects.specs.Steps.{StepMeets, writeStep, readStep};
+use protocol_codes::Status;
+ghost use mathlib.Core.Path.{_≡_};
+ghost use Rattle.mock_effects.specs.Steps.{StepMeets, failed, pend, pended, writeStepBy, readStepBy, writeStep, readStep};
 
 pub struct SessionStep {
     pub answer: MockAnswer,
     pub session: Session,
 }
 
-pub fn write_step(session: Session, flash: &mut [u8], data: &[u8]) -> SessionStep
-    ensures { λ r. ⌜ StepMeets r (now (flash .exit)) (writeStep session (now (flash .entry)) (now («data» .entry))) ⌝ }
+fn failed(state: CommandState) -> CommandState
+    ensures { λ r. ⌜ r ≡ failed state ⌝ }
+{
+    match state {
+        CommandState::None => CommandState::None,
+        CommandState::IO(command) => CommandState::IO(command),
+        CommandState::Status(command, _) => CommandState::Status(command, Status::FAILED),
+    }
+}
+
+fn pend(status: Status, state: CommandState) -> CommandState
+    ensures { λ r. ⌜ r ≡ pend status state ⌝ }
+{
+    match status {
+        Status::SUCCESS => state,
+        Status::FAILED => failed(state),
+    }
+}
+
+// The session that the table gave, with the status that applying its effect answered.
+fn pended(status: Status, session: Session) -> Session
+    ensures { λ r. ⌜ r ≡ pended status session ⌝ }
+{
+    let state = session.current_command;
+    let reset = session.last_reset;
+    Session {
+        current_command: pend(status, state),
+        last_reset: reset,
+    }
+}
+
+// A bulk write at a flash of this variety and block size.
+pub fn write_step_by(
+    session: Session,
+    variety: Variety,
+    block_size: u16,
+    flash: &mut [u8],
+    data: &[u8],
+) -> SessionStep
+    ensures { λ r. ⌜ StepMeets r (now (flash .exit)) (writeStepBy variety «block_size» session (now (flash .entry)) (now («data» .entry))) ⌝ }
 {
     let size = flash_sectors(flash.len());
     let FlashSectors::Whole(sectors) = size else {
@@ -29,24 +71,26 @@ pub fn write_step(session: Session, flash: &mut [u8], data: &[u8]) -> SessionSte
             session: session,
         };
     };
-    let outcome = write_outcome(session, sectors, data);
+    let outcome = write_outcome(session, variety, block_size, sectors, data);
     let effect = outcome.effect;
-    apply_to_flash(effect, flash, data);
+    let pending = apply_to_flash(effect, flash, data);
     let answer = outcome.answer;
     let next = outcome.session;
     SessionStep {
         answer: answer,
-        session: next,
+        session: pended(pending, next),
     }
 }
 
-pub fn read_step(
+// A bulk read at a flash of this variety.
+pub fn read_step_by(
     session: Session,
+    variety: Variety,
     config: MockDeviceConfig,
     flash: &[u8],
     data: &mut [u8],
 ) -> SessionStep
-    ensures { λ r. ⌜ StepMeets r (now («data» .exit)) (readStep session config (now (flash .entry)) (now («data» .entry))) ⌝ }
+    ensures { λ r. ⌜ StepMeets r (now («data» .exit)) (readStepBy variety session config (now (flash .entry)) (now («data» .entry))) ⌝ }
 {
     let size = flash_sectors(flash.len());
     let FlashSectors::Whole(sectors) = size else {
@@ -55,7 +99,7 @@ pub fn read_step(
             session: session,
         };
     };
-    let outcome = read_outcome(session, sectors, data.len());
+    let outcome = read_outcome(session, variety, sectors, data.len());
     let effect = outcome.effect;
     apply_to_buffer(effect, config, flash, data);
     let answer = outcome.answer;
@@ -64,4 +108,23 @@ pub fn read_step(
         answer: answer,
         session: after,
     }
+}
+
+// At a flash of the first variety.
+pub fn write_step(session: Session, flash: &mut [u8], data: &[u8]) -> SessionStep
+    ensures { λ r. ⌜ StepMeets r (now (flash .exit)) (writeStep session (now (flash .entry)) (now («data» .entry))) ⌝ }
+{
+    write_step_by(session, Variety::First, 0, flash, data)
+}
+
+// At a flash of the first variety.
+pub fn read_step(
+    session: Session,
+    config: MockDeviceConfig,
+    flash: &[u8],
+    data: &mut [u8],
+) -> SessionStep
+    ensures { λ r. ⌜ StepMeets r (now («data» .exit)) (readStep session config (now (flash .entry)) (now («data» .entry))) ⌝ }
+{
+    read_step_by(session, Variety::First, config, flash, data)
 }

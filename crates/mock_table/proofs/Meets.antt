@@ -11,6 +11,7 @@ use Rattle.protocol.specs.declared.CommandParse.{CommandParse}
 use Rattle.protocol.specs.declared.CommandAnswer.the-variants.{Refused}
 use Rattle.mock_base.proofs.Telling.{answers-error, answers-done}
 use Rattle.mock_base.specs.Told.{errorTold, errorValues, resultTold, innerSignature, signatureBeside}
+use Rattle.mock_base.specs.declared.cells.Variety.{Variety}
 use Rattle.mock_base.specs.declared.error.MockTransportError.{MockTransportError}
 use Rattle.mock_table.specs.Turn.{Turn, refuses, done, OutcomeMeets}
 use Rattle.mock_table.specs.Code.{refusedWith, settled, blockRefused}
@@ -32,11 +33,11 @@ unfolding done
 done-as state last effect e f = rw (e, f) (record { tells = answers-done; next = refl; effect = refl })
 
 -- 56: bytes that are no command
-pub block-refused : {r : Outcome} (parse : CommandParse) (told : Told CommandBlock) → CommandMeets parse told → (error : CommandBlockParseError)
+pub block-refused : {r : Outcome} (v : Variety) (block : ℕ) (parse : CommandParse) (told : Told CommandBlock) → CommandMeets parse told → (error : CommandBlockParseError)
     → parse .answer ≡ Refused error → (last : LastReset) (sectors : ℕ) → r ≡ blockRefused last error (parse .signature)
-    → OutcomeMeets r (startTurn told last sectors)
+    → OutcomeMeets r (startTurn v block told last sectors)
 unfolding startTurn refuses resultTold errorValues signatureBeside innerSignature commandTold signatureIn
-block-refused parse told m error a last sectors e =
+block-refused v block parse told m error a last sectors e =
     let t : told ≡ refused (commandErrorNumber error) (commandErrorValues error (parse .signature)) = sym (m .tells) ∙ rw a refl in
     rw (e, t)
     (record { tells = record { tells = refl; signature = m .signature ∙ rw t refl }; next = refl; effect = refl })

@@ -1,4 +1,6 @@
--- The transaction table: `Turn` has what a bulk call comes to, `Table` the rows. `Code` describes private functions of the code.
+-- The transaction table: `Turn` has what a bulk call comes to, `Ways` what the flash's variety decides, `Table` the rows. `Code` describes private
+-- functions of the code.
 pub mod Turn
+pub mod Ways
 pub mod Table
 pub mod Code

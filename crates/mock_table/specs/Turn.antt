@@ -9,6 +9,7 @@ use Rattle.promise.specs.Rules.{pick}
 use Rattle.protocol_codes.specs.Numbers.{codeNumber}
 use Rattle.protocol_codes.specs.declared.CommandCode.{CommandCode}
 use Rattle.protocol_codes.specs.declared.CommandCode.the-variants.{EraseLBA, EraseForce}
+use Rattle.protocol_codes.specs.declared.Status.the-variants.{SUCCESS}
 use Rattle.protocol_codes.specs.declared.Direction.{Direction}
 use Rattle.protocol_codes.specs.declared.Direction.the-variants.{In, Out}
 use Rattle.protocol_bytes.specs.Sector.{sectorSize}
@@ -20,9 +21,9 @@ use Rattle.mock_table.specs.declared.session.CommandState.the-variants a
 use Rattle.mock_table.specs.declared.session.LastReset.{LastReset}
 use Rattle.mock_table.specs.declared.session.Session.{Session}
 use Rattle.mock_table.specs.declared.outcome.Effect.{Effect}
-use Rattle.mock_table.specs.declared.outcome.Effect.the-variants.{Nothing, Fill, Store, Supply, Reply}
+use Rattle.mock_table.specs.declared.outcome.Effect.the-variants.{Nothing, Fill, Store, Program, Supply, Reply}
 use Rattle.mock_table.specs.declared.outcome.ReplyKind.{ReplyKind}
-use Rattle.mock_table.specs.declared.outcome.ReplyKind.the-variants.{FlashId, FlashInfo, ChipInfo, Capability}
+use Rattle.mock_table.specs.declared.outcome.ReplyKind.the-variants.{FlashId, FlashInfo, ChipInfo, Capability, Storage}
 use Rattle.mock_table.specs.declared.outcome.ReplyKind.the-variants as reply
 use Rattle.mock_table.specs.declared.outcome.Outcome.{Outcome}
 use Rattle.mock_table.specs.declared.session.CommandState.the-variants.{None}
@@ -58,30 +59,27 @@ unfoldable pub isIn : Direction → Bool
 isIn In = true
 isIn Out = false
 
--- which way the data of a command over sectors goes
-unfoldable pub movedBy : Direction → FlashRange → Effect
-movedBy Out range = Store range
-movedBy In range = Supply range
-
 -- an outcome that comes to this
 pub record OutcomeMeets (r : Outcome) (t : Turn) : Type 0 where
   pub tells : Answers (r .answer) (t .told)
   pub next : r .session ≡ t .next
   pub effect : r .effect ≡ t .effect
 
--- chip info 16 bytes, flash id 5, flash info 11, capability 8; status 13
+-- chip info 16 bytes, flash id 5, flash info 11, capability 8, storage 4; status 13
 unfoldable pub replySize : ReplyKind → ℕ
 replySize ChipInfo = 16
 replySize FlashId = 5
 replySize FlashInfo = 11
 replySize Capability = 8
-replySize (reply.Status tag) = 13
+replySize Storage = 4
+replySize (reply.Status tag status) = 13
 
 -- an effect over a flash of so many sectors and `actual` bytes of data or buffer has its whole range there, and as many bytes
 unfoldable pub EffectFits : ℕ → ℕ → Effect → Type 0
 EffectFits sectors actual Nothing = Unit
 EffectFits sectors actual (Fill range) = range .first + range .count ≤ sectors
 EffectFits sectors actual (Store range) = (range .first + range .count ≤ sectors) × (actual ≡ range .count * sectorSize)
+EffectFits sectors actual (Program range) = (range .first + range .count ≤ sectors) × (actual ≡ range .count * sectorSize)
 EffectFits sectors actual (Supply range) = (range .first + range .count ≤ sectors) × (actual ≡ range .count * sectorSize)
 EffectFits sectors actual (Reply kind) = actual ≡ replySize kind
 
@@ -89,3 +87,9 @@ EffectFits sectors actual (Reply kind) = actual ≡ replySize kind
 pub record Sane (last : LastReset) (sectors actual : ℕ) (t : Turn) : Type 0 where
   pub fits : EffectFits sectors actual (t .effect)
   pub ends : (number : ℕ) (values : List ℕ) → t .told ≡ refused number values → (t .next ≡ session None last) × (t .effect ≡ Nothing)
+
+-- no FAILED status is pending
+unfoldable pub Quiet : CommandState → Type 0
+Quiet state.None = Unit
+Quiet (state.IO c) = Unit
+Quiet (state.Status c status) = status ≡ SUCCESS

@@ -2,6 +2,7 @@
 use super::session::Session;
 use mock_base::error::MockAnswer;
 use mock_base::range::FlashRange;
+use protocol_codes::Status;
 
 // What a read is given that is not the flash's.
 pub enum ReplyKind {
@@ -9,8 +10,9 @@ pub enum ReplyKind {
     FlashInfo,
     ChipInfo,
     Capability,
+    Storage,
     // the status of the command with this tag
-    Status(u32),
+    Status(u32, Status),
 }
 
 pub enum Effect {
@@ -19,6 +21,8 @@ pub enum Effect {
     Fill(FlashRange),
     // the call's data into the flash
     Store(FlashRange),
+    // the call's data into NOR cells, which clears bits alone
+    Program(FlashRange),
     // the flash into the call's buffer
     Supply(FlashRange),
     Reply(ReplyKind),

@@ -4,18 +4,20 @@ use super::outcome::Outcome;
 use super::session::CommandState;
 use super::session::LastReset;
 use super::session::Session;
+use super::ways::moved_by;
+use mock_base::cells::Variety;
 use mock_base::error::MockAnswer;
 use mock_base::error::MockResult;
 use mock_base::error::MockTransportError;
-use mock_base::range::FlashRange;
 use mock_base::range::RangeAnswer;
 use mock_base::range::flash_range;
 use protocol::CommandBlock;
 use protocol_bytes::SECTOR_SIZE;
 use protocol_codes::CommandCode;
 use protocol_codes::Direction;
+use protocol_codes::Status;
 ghost use mathlib.Core.Path.{_≡_};
-ghost use Rattle.mock_table.specs.Turn.{hasCode, movedBy, OutcomeMeets};
+ghost use Rattle.mock_table.specs.Turn.{hasCode, OutcomeMeets};
 ghost use Rattle.mock_table.specs.Code.{refusedWith, settled};
 ghost use Rattle.mock_table.specs.Table.{sectorTurn};
 
@@ -59,24 +61,16 @@ pub(crate) fn has_code(command: CommandBlock, code: CommandCode) -> bool
     own.number() == code.number()
 }
 
-fn moved_by(direction: Direction, range: FlashRange) -> Effect
-    ensures { λ r. ⌜ r ≡ movedBy direction range ⌝ }
-{
-    match direction {
-        Direction::In => Effect::Supply(range),
-        Direction::Out => Effect::Store(range),
-    }
-}
-
 // The data of a command over sectors: `actual` bytes into the flash or out of it.
 pub(crate) fn sector_io(
+    variety: Variety,
     reset: LastReset,
     command: CommandBlock,
     direction: Direction,
     sectors: usize,
     actual: usize,
 ) -> Outcome
-    ensures { λ r. ⌜ OutcomeMeets r (sectorTurn reset command direction sectors actual) ⌝ }
+    ensures { λ r. ⌜ OutcomeMeets r (sectorTurn variety reset command direction sectors actual) ⌝ }
 {
     let RangeAnswer::Within(range) = flash_range(sectors, command.cd_address, command.cd_length)
     else {
@@ -93,8 +87,8 @@ pub(crate) fn sector_io(
         );
     }
     settle(
-        CommandState::Status(command),
+        CommandState::Status(command, Status::SUCCESS),
         reset,
-        moved_by(direction, range),
+        moved_by(variety, direction, range),
     )
 }

@@ -1,6 +1,7 @@
 // What the stand-in remembers from one bulk call to the next.
 use protocol::CommandBlock;
 use protocol_codes::ResetOpcode;
+use protocol_codes::Status;
 
 // The transaction.
 pub enum CommandState {
@@ -8,8 +9,8 @@ pub enum CommandState {
     None,
     // Waiting on I/O for current command
     IO(CommandBlock),
-    // Waiting for status read for current command
-    Status(CommandBlock),
+    // Waiting for status read for current command, which is told this
+    Status(CommandBlock, Status),
 }
 
 pub enum LastReset {

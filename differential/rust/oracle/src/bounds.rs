@@ -5,7 +5,7 @@ use crate::{cases::Kind, text::Reason};
 /// Of a kind's calls so many may be `outside` for this reason: as many as its exhaustive cases have, and so many in
 /// 100,000 of all its calls (a fiftieth above what the generator makes, by its count with seed 1). What is not here may
 /// not happen.
-const BOUNDS: [(Kind, Reason, usize, usize); 13] = [
+const BOUNDS: [(Kind, Reason, usize, usize); 14] = [
     (Kind::Blocks, Reason::ShortOutput, 65, 0),
     (Kind::Status, Reason::ShortOutput, 13, 1_275),
     (Kind::Replies, Reason::NotSectors, 50, 4_250),
@@ -19,6 +19,7 @@ const BOUNDS: [(Kind, Reason, usize, usize); 13] = [
     (Kind::Device, Reason::NotThere, 39, 0),
     (Kind::Uploads, Reason::ShortOutput, 2, 0),
     (Kind::Decks, Reason::NotThere, 2, 0),
+    (Kind::Nor, Reason::NotThere, 78, 0),
 ];
 
 /// To the share come four times its square root, by which chance moves a count: of ten million calls that is little, of

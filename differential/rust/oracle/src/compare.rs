@@ -31,8 +31,9 @@ const WAITING: usize = 16;
 /// Differences of a kind that are made small and printed; the others are counted.
 pub const SHOWN: usize = 3;
 
-/// The refusals of a full store.
-pub const FULL: [&str; 2] = ["58", "59"];
+/// Refusals that are counted, since cases have to meet them: those of a full store, a finish with FAILED, and those that
+/// only a NOR head has.
+pub const COUNTED: [&str; 5] = ["58", "59", "15", "62", "63"];
 
 pub type Cases = Box<dyn Iterator<Item = Case> + Send>;
 
@@ -45,8 +46,8 @@ pub struct Count {
     pub differences: usize,
     /// Lines that were not of the language, and panics that were not expected.
     pub complaints: usize,
-    /// Calls that the Rust's side answered with each of `FULL`.
-    pub full: [usize; 2],
+    /// Calls that the Rust's side answered with each of `COUNTED`.
+    pub met: [usize; COUNTED.len()],
     /// Calls whose sector operation moved fewer bytes than asked, by the Rust's side.
     pub short: usize,
     /// The first cases that differed, up to the line that did.
@@ -62,8 +63,9 @@ impl Count {
         }
         self.differences += other.differences;
         self.complaints += other.complaints;
-        self.full[0] += other.full[0];
-        self.full[1] += other.full[1];
+        for (n, more) in self.met.iter_mut().zip(other.met) {
+            *n += more;
+        }
         self.short += other.short;
         self.found.extend(other.found);
     }
@@ -159,8 +161,8 @@ fn compare_case(
         if let Some(reason) = reason {
             *count.outside.entry(reason).or_default() += 1;
         }
-        if let Some(n) = FULL.iter().position(|full| number(line, &rust) == Some(full)) {
-            count.full[n] += 1;
+        if let Some(n) = COUNTED.iter().position(|counted| number(line, &rust) == Some(counted)) {
+            count.met[n] += 1;
         }
         count.short += usize::from(is_short(line, &rust));
         if !answered || (reason.is_none() && !is_same(line, &rust, ours)) {

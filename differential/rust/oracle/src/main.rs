@@ -7,6 +7,7 @@ mod cases;
 mod compare;
 mod decks;
 mod forgets;
+mod nor;
 mod operations;
 mod oracle;
 mod refusals;

@@ -3,13 +3,12 @@
 use std::marker::PhantomData;
 
 use rockusb::{
-    device::{Error, Transport},
     operation::{MaskRomOperation, OperationSteps, Transferred, UsbOperationError, UsbStep},
     protocol::{COMMAND_BLOCK_BYTES, Capability, ChipInfo, FlashId, FlashInfo, StorageIndex},
 };
 
 use crate::{
-    refusals::{operation_refusal, transport_refusal},
+    refusals::operation_refusal,
     stand::{Room, Stand},
     text::{Answer, Reason, Stop, Tokens, show},
     values::{flash_id_bytes, long_enough, output, reset_opcode, show_index, storage_index, whole_sectors},
@@ -137,12 +136,11 @@ impl<O: OperationSteps<T>, T: Value> Steps for Typed<O, T> {
             cut_short: None,
             room: stand.room(),
         };
-        let result = stand.transport().handle_operation(&mut budgeted);
+        let result = stand.handle(&mut budgeted);
         let end = match (budgeted.cut_short.take(), result) {
             (Some(end), _) => end,
             (None, Ok(value)) => End::Finished(value.show()),
-            (None, Err(Error::OperationError(e))) => End::Refused(operation_refusal(&e)),
-            (None, Err(Error::UsbError(e))) => End::Refused(transport_refusal(&e)),
+            (None, Err(refusal)) => End::Refused(refusal),
         };
         let last = match (&end, budgeted.last) {
             // A transport that was served has had its giving.

@@ -86,6 +86,19 @@ impl Oracle {
         }
     }
 
+    /// None where the start was refused, or had no answer.
+    fn start_device(&mut self, started: Result<(Option<Stand>, String), Stop>) -> Answer {
+        self.device = None;
+        let (device, answer) = started?;
+        self.device = device;
+        Ok(answer)
+    }
+
+    /// The current device's flash.
+    pub fn flash(&self) -> Option<&[u8]> {
+        self.device.as_ref().map(Stand::flash)
+    }
+
     fn call(&mut self, line: &str) -> Answer {
         if line.len() >= LINE_LIMIT {
             return Err(Stop(Reason::Unreadable));
@@ -125,12 +138,8 @@ impl Oracle {
                 self.device = Some(device);
                 Ok(answer)
             }
-            "dvc" => {
-                self.device = None;
-                let (device, answer) = stand::start_configured(tokens)?;
-                self.device = device;
-                Ok(answer)
-            }
+            "dvc" => self.start_device(stand::start_configured(tokens)),
+            "dvn" => self.start_device(stand::start_nor(tokens)),
             "bwr" => there(&mut self.device)?.write_bulk(tokens),
             "brd" => there(&mut self.device)?.read_bulk(tokens),
             "ctl" => there(&mut self.device)?.write_control(tokens),

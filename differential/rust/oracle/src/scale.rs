@@ -9,18 +9,19 @@ use std::{
 };
 
 use crate::{
-    cases::{Kind, device, make::Rng, uploads},
-    compare::{Cases, Count, FULL, compare_cases, print_count, print_found, print_outside},
+    cases::{Draws, Kind, device, make::Rng, uploads},
+    compare::{COUNTED, Cases, Count, compare_cases, print_count, print_found, print_outside},
 };
 
 /// Random calls of each kind. Of uploads there are those of every length beside these.
-const CALLS: [(Kind, usize); 10] = [
+const CALLS: [(Kind, usize); 11] = [
     (Kind::Blocks, 3_000_000),
     (Kind::Status, 1_500_000),
     (Kind::Replies, 1_000_000),
     (Kind::Operations, 2_500_000),
     (Kind::Device, 1_800_000),
     (Kind::Runs, 600_000),
+    (Kind::Nor, 600_000),
     (Kind::Uploads, 4_000),
     (Kind::Large, 400),
     (Kind::Decks, 200_000),
@@ -30,11 +31,15 @@ const CALLS: [(Kind, usize); 10] = [
 /// In place of a command: the kind is not asked.
 const LEFT_OUT: &str = "-";
 
-/// Kinds whose cases fill a store, which 58 and 59 refuse.
-const FILLING: [Kind; 3] = [Kind::Device, Kind::Runs, Kind::Decks];
+/// What a full store refuses with.
+const FULL: &[&str] = &["58", "59"];
+
+/// Refusals that a kind's cases have to meet, each of `COUNTED`.
+const MET: [(Kind, &[&str]); 4] =
+    [(Kind::Device, FULL), (Kind::Runs, FULL), (Kind::Nor, &COUNTED), (Kind::Decks, FULL)];
 
 /// Kinds that finish operations.
-const FINISHING: [Kind; 4] = [Kind::Operations, Kind::Runs, Kind::Decks, Kind::Sizes];
+const FINISHING: [Kind; 5] = [Kind::Operations, Kind::Runs, Kind::Nor, Kind::Decks, Kind::Sizes];
 
 /// Short transfers that `operations` has at least.
 pub const LEAST_SHORT: usize = 10_000;
@@ -108,19 +113,22 @@ fn sizes(rng: Rng, calls: usize) -> Job {
 
 /// The long jobs first. Every job has a seed of its own, so that the order in which they end changes nothing.
 fn jobs(programs: &Programs, seed: u64, share: usize) -> Vec<Job> {
-    let mut seeds = Rng::new(seed);
+    let mut draws = Draws::new(seed);
     let mut jobs = Vec::new();
     for piece in 0..PIECES {
-        jobs.push(Job { kind: Kind::Uploads, cases: lengths_piece(piece, Rng::new(seeds.next()), share) });
+        jobs.push(Job {
+            kind: Kind::Uploads,
+            cases: lengths_piece(piece, Rng::new(draws.of(Kind::Uploads).next()), share),
+        });
     }
     for (kind, calls) in CALLS.into_iter().rev() {
         if kind == Kind::Sizes {
-            let job = sizes(Rng::new(seeds.next()), calls.div_ceil(share));
+            let job = sizes(Rng::new(draws.of(kind).next()), calls.div_ceil(share));
             jobs.extend(programs.find(kind).is_some().then_some(job));
             continue;
         }
         for piece in 0..PIECES {
-            let rng = Rng::new(seeds.next());
+            let rng = Rng::new(draws.of(kind).next());
             jobs.push(Job { kind, cases: random_piece(kind, piece, rng, calls.div_ceil(PIECES * share)) });
         }
         jobs.push(Job { kind, cases: Box::new(kind.exhaustive().into_iter()) });
@@ -142,8 +150,8 @@ fn work(
     }
 }
 
-/// Whether there was no difference, no reason for `outside` above its bound and, where all is asked, a store that was
-/// full and short transfers where they have to be, and there alone. `share` takes one in so many of the calls.
+/// Whether there was no difference, no reason for `outside` above its bound and, where all is asked, every refusal that
+/// has to be met and short transfers where they have to be, and there alone. `share` takes one in so many of the calls.
 pub fn scale(programs: &Programs, seed: u64, share: usize) -> io::Result<bool> {
     println!("seed {seed}");
     let began = Instant::now();
@@ -158,15 +166,19 @@ pub fn scale(programs: &Programs, seed: u64, share: usize) -> io::Result<bool> {
     report(programs, share, counts, began.elapsed())
 }
 
-/// Whether both refusals of a full store were among the answers of a kind that is to meet them.
-fn is_filled(kind: Kind, count: &Count) -> bool {
-    if !FILLING.contains(&kind) {
-        return true;
+/// The refusals that a kind has to meet, each with how often its answers had it.
+pub fn met(kind: Kind, count: &Count) -> Vec<(&'static str, usize)> {
+    let wanted = MET.iter().find(|(one, _)| *one == kind).map_or(&[][..], |(_, wanted)| wanted);
+    COUNTED.into_iter().zip(count.met).filter(|(number, _)| wanted.contains(number)).collect()
+}
+
+/// Whether each was among them.
+fn has_met_all(kind: Kind, count: &Count) -> bool {
+    let met = met(kind, count);
+    for (number, n) in &met {
+        println!("{}: answered {number} {n}{}", kind.name(), if *n == 0 { ", which is NONE" } else { "" });
     }
-    for (number, n) in FULL.iter().zip(count.full) {
-        println!("{}: answered {number} {n}{}", kind.name(), if n == 0 { ", which is NONE" } else { "" });
-    }
-    !count.full.contains(&0)
+    met.iter().all(|(_, n)| *n > 0)
 }
 
 /// What is wrong with so many short transfers of a kind where all is asked: `operations`, whose statuses are given by
@@ -205,7 +217,7 @@ fn report(
         print_found(programs.of(kind), &count)?;
         print_count(&format!("{}: ", kind.name()), &count);
         all_kept &= print_outside(kind, &count);
-        all_kept &= share > 1 || is_filled(kind, &count);
+        all_kept &= share > 1 || has_met_all(kind, &count);
         all_kept &= share > 1 || is_short_by_hand(kind, &count);
         all.add(count);
     }

@@ -1,5 +1,7 @@
 //! Shows that each part works, and prints the faults of the Rust that the rules refuse.
 
+mod nor;
+
 use std::{fs, io};
 
 use rockusb::{
@@ -37,6 +39,12 @@ pub fn selftest(page: &str) -> io::Result<bool> {
         ("a reason above its bound fails a run, and so does a panic", bounded()),
         ("a short transfer is shown, and forgetting that leaves the Rust's answer", distinguished()),
         ("a transfer that is told wrongly is a difference", told_wrongly()),
+        ("a NOR head is as document 02 says", nor::documented()),
+        (
+            "the sample of `nor` has 62, 63, 15, FAILED and writes over cells that were not erased",
+            nor::sampled(),
+        ),
+        ("a kind that has not met its refusals fails a run", nor::unmet()),
         ("faults of the Rust", faults()),
     ];
     let mut held = true;
@@ -392,6 +400,8 @@ fn short_blocks() -> Vec<String> {
         (Kind::Operations, LEAST_SHORT, false),
         (Kind::Runs, 0, false),
         (Kind::Runs, 1, true),
+        (Kind::Nor, 0, false),
+        (Kind::Nor, 1, true),
         (Kind::Decks, 1, true),
         (Kind::Sizes, 1, true),
     ] {

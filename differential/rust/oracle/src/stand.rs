@@ -1,16 +1,17 @@
-//! The current device: the mock, asked through `Transport::handle_operation`.
+//! The current device: the mock or a NOR head, asked through `Transport::handle_operation`.
 
 use std::collections::{BTreeMap, BTreeSet};
 
 use rockusb::{
     device::{Error, Transport},
     operation::{OperationSteps, UsbStep},
-    protocol::SECTOR_SIZE,
+    protocol::{ResetOpcode, SECTOR_SIZE},
 };
-use rockusb_mock::{MockConfigError, MockDevice, MockDeviceConfig, MockState};
+use rockusb_mock::{MockConfigError, MockDevice, MockDeviceConfig};
 
 use crate::{
-    refusals::transport_refusal,
+    nor::{Nor, Refusal},
+    refusals::{operation_refusal, transport_refusal},
     text::{Answer, Reason, Stop, Tokens, show},
     values::output,
 };
@@ -20,7 +21,7 @@ const SLOTS: usize = 8;
 const STORE_LIMIT: u64 = 335_544_320;
 const FLASH_LIMIT: usize = 65_536 * SECTOR_SIZE as usize;
 
-/// The bounded store of the rules, which the Rust does not have: only whether a write fits, or is 58 or 59.
+/// The bounded store of the rules, which neither head has: only whether a write fits, or is 58 or 59.
 pub struct Room {
     slot: usize,
     held: BTreeMap<u16, usize>,
@@ -40,11 +41,47 @@ impl Room {
     }
 }
 
+enum Head {
+    Mock(MockDevice),
+    Nor(Nor),
+}
+
+impl Head {
+    fn flash(&self) -> &[u8] {
+        match self {
+            Head::Mock(mock) => mock.flash(),
+            Head::Nor(nor) => nor.flash(),
+        }
+    }
+
+    fn area(&self, area: u16) -> Option<&[u8]> {
+        match self {
+            Head::Mock(mock) => mock.maskrom_area(area),
+            Head::Nor(nor) => nor.area(area),
+        }
+    }
+
+    fn last_reset(&self) -> Option<ResetOpcode> {
+        match self {
+            Head::Mock(mock) => mock.last_reset(),
+            Head::Nor(nor) => nor.last_reset(),
+        }
+    }
+}
+
 pub struct Stand {
-    mock: MockDevice,
+    head: Head,
     store: usize,
-    /// Every area number that was ever asked for; the mock only looks areas up.
+    /// Every area number that was ever asked for; a head only looks areas up.
     named: BTreeSet<u16>,
+}
+
+/// A refusal as its number and values.
+fn told<T, E>(result: Result<T, Error<E>>, refusal: impl Fn(&E) -> String) -> Result<T, String> {
+    result.map_err(|e| match e {
+        Error::UsbError(e) => refusal(&e),
+        Error::OperationError(e) => operation_refusal(&e),
+    })
 }
 
 /// One raw call, then the finish.
@@ -59,16 +96,11 @@ impl OperationSteps<()> for Once<'_> {
 pub fn start_default(tokens: &mut Tokens) -> Result<(Stand, String), Stop> {
     let store = tokens.up_to(STORE_LIMIT)? as usize;
     tokens.end()?;
-    Ok(started(Stand::fresh(store)))
+    Ok(Stand::fresh(store).started(0))
 }
 
-fn started(stand: Stand) -> (Stand, String) {
-    let answer = format!("0 | {}", stand.show());
-    (stand, answer)
-}
-
-/// No device where the Rust refuses the configuration.
-pub fn start_configured(tokens: &mut Tokens) -> Result<(Option<Stand>, String), Stop> {
+/// The store's length and the configuration.
+fn configuration(tokens: &mut Tokens) -> Result<(usize, MockDeviceConfig), Stop> {
     let store = tokens.up_to(STORE_LIMIT)? as usize;
     let config = MockDeviceConfig {
         block_size_sectors: tokens.u16()?,
@@ -79,25 +111,61 @@ pub fn start_configured(tokens: &mut Tokens) -> Result<(Option<Stand>, String), 
         flash: tokens.data()?,
     };
     tokens.end()?;
-    let sectors_fit = config.flash.len() <= FLASH_LIMIT;
-    match MockDevice::new(config) {
-        Err(MockConfigError::FlashSize(len)) => Ok((None, format!("60 {len}"))),
-        Ok(_) if !sectors_fit => Err(Stop(Reason::FlashTooLarge)),
-        Ok(mock) => {
-            let (stand, answer) = started(Stand { mock, store, named: BTreeSet::new() });
+    Ok((store, config))
+}
+
+/// The device of an accepted configuration (its number is 0, or 62), or none where its flash's length is refused (60).
+fn start(head: Result<(Head, u8), usize>, store: usize) -> Result<(Option<Stand>, String), Stop> {
+    match head {
+        Err(len) => Ok((None, format!("60 {len}"))),
+        Ok((head, _)) if head.flash().len() > FLASH_LIMIT => Err(Stop(Reason::FlashTooLarge)),
+        Ok((head, number)) => {
+            let (stand, answer) = Stand { head, store, named: BTreeSet::new() }.started(number);
             Ok((Some(stand), answer))
         }
     }
 }
 
+/// No device where the Rust refuses the configuration.
+pub fn start_configured(tokens: &mut Tokens) -> Result<(Option<Stand>, String), Stop> {
+    let (store, config) = configuration(tokens)?;
+    let head = MockDevice::new(config).map(|mock| (Head::Mock(mock), 0));
+    start(head.map_err(|MockConfigError::FlashSize(len)| len), store)
+}
+
+/// A NOR head, which is there with a block size of 0 too: that is told, and it goes on.
+pub fn start_nor(tokens: &mut Tokens) -> Result<(Option<Stand>, String), Stop> {
+    let (store, config) = configuration(tokens)?;
+    let head = Nor::new(config).map(|nor| {
+        let number = if nor.has_no_blocks() { 62 } else { 0 };
+        (Head::Nor(nor), number)
+    });
+    start(head, store)
+}
+
 impl Stand {
     /// The Rust's default device.
     pub fn fresh(store: usize) -> Stand {
-        Stand { mock: MockDevice::default(), store, named: BTreeSet::new() }
+        Stand { head: Head::Mock(MockDevice::default()), store, named: BTreeSet::new() }
     }
 
-    pub fn transport(&mut self) -> &mut MockState {
-        self.mock.device().transport_mut()
+    fn started(self, number: u8) -> (Stand, String) {
+        let answer = format!("{number} | {}", self.show());
+        (self, answer)
+    }
+
+    /// What an operation comes to, by the head's own loop over its steps.
+    pub fn handle<T>(&mut self, operation: impl OperationSteps<T>) -> Result<T, String> {
+        match &mut self.head {
+            Head::Mock(mock) => {
+                told(mock.device().transport_mut().handle_operation(operation), transport_refusal)
+            }
+            Head::Nor(nor) => told(nor.handle_operation(operation), Refusal::show),
+        }
+    }
+
+    pub fn flash(&self) -> &[u8] {
+        self.head.flash()
     }
 
     pub fn expect(&mut self, area: u16) {
@@ -105,7 +173,7 @@ impl Stand {
     }
 
     fn held(&self) -> impl Iterator<Item = (u16, &[u8])> {
-        self.named.iter().filter_map(|area| Some((*area, self.mock.maskrom_area(*area)?)))
+        self.named.iter().filter_map(|area| Some((*area, self.head.area(*area)?)))
     }
 
     pub fn room(&self) -> Room {
@@ -118,23 +186,19 @@ impl Stand {
     pub fn show(&self) -> String {
         let areas: Vec<String> =
             self.held().map(|(area, bytes)| format!(" {area} {}", show(bytes))).collect();
-        let flash = show(self.mock.flash());
+        let flash = show(self.flash());
         format!("{flash} | {}{} | {}", areas.len(), areas.concat(), self.reset())
     }
 
     fn reset(&self) -> String {
-        match self.mock.last_reset() {
+        match self.head.last_reset() {
             Some(opcode) => format!("1 {}", u8::from(opcode)),
             None => "0".into(),
         }
     }
 
     fn call(&mut self, step: UsbStep<'_, ()>) -> String {
-        match self.transport().handle_operation(Once(Some(step))) {
-            Ok(()) => "0".into(),
-            Err(Error::UsbError(e)) => transport_refusal(&e),
-            Err(Error::OperationError(_)) => unreachable!("one raw call finishes well"),
-        }
+        self.handle(Once(Some(step))).map_or_else(|refusal| refusal, |()| "0".into())
     }
 
     pub fn write_bulk(&mut self, tokens: &mut Tokens) -> Answer {
@@ -168,7 +232,7 @@ impl Stand {
     pub fn area(&self, tokens: &mut Tokens) -> Answer {
         let area = tokens.u16()?;
         tokens.end()?;
-        Ok(match self.mock.maskrom_area(area) {
+        Ok(match self.head.area(area) {
             Some(bytes) => format!("0 1 {}", show(bytes)),
             None => "0 0".into(),
         })

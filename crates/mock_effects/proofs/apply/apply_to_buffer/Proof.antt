@@ -57,6 +57,12 @@ returns-5 c =
     let a = c .before .before .before .before .args in
     ap (λ (x : Effect). bufferAfter (a .config) x (now (a .flash)) (now (a .«data»))) (sym (c .enum-told3 .given .1))
 
+returns-6 : tie.Need-returns-6
+unfolding bufferAfter
+returns-6 c =
+    let a = c .before .before .before .before .args in
+    ap (λ (x : Effect). bufferAfter (a .config) x (now (a .flash)) (now (a .«data»))) (sym (c .enum-told4 .given .1))
+
 pub apply-to-buffer-spec : {M : Type 1} → statement M
 apply-to-buffer-spec =
     tie.close
@@ -71,9 +77,11 @@ apply-to-buffer-spec =
     (λ c. search needs)
     (λ c. search needs)
     (λ c. search needs)
+    (λ c. search needs)
     returns
     (λ c. search needs)
     returns-2
     returns-3
     returns-4
-    returns-5)
+    returns-5
+    returns-6)

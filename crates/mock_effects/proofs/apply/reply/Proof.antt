@@ -8,14 +8,13 @@ use lib.ListN.{length}
 use borrow.Author.Needs.{needs}
 use borrow.Author.Tests.{le-ltb}
 use Rattle.promise.specs.Bytes.{front}
-use Rattle.protocol_codes.specs.declared.Status.the-variants.{SUCCESS}
 use Rattle.protocol_bytes.specs.Writing.{writing}
 use Rattle.protocol_status.specs.StatusBytes.{statusLength, statusBytes, writeStatus}
 use Rattle.protocol_status.specs.declared.report.CommandStatus.{CommandStatus}
 use Rattle.promise.proofs.Copied.{copied-front}
 use Rattle.mock_table.specs.Turn.{replySize}
 use Rattle.mock_table.specs.declared.outcome.ReplyKind.{ReplyKind}
-use Rattle.mock_effects.specs.Effects.{replyBytes}
+use Rattle.mock_effects.specs.Effects.{storageBytes, replyBytes}
 use Rattle.mock_effects.proofs.apply.reply.Statement.{statement}
 use Rattle.mock_effects.proofs.apply.reply.Tie as tie
 
@@ -49,6 +48,13 @@ copy-requires-4 c κs =
     let s = c .before .before .before .before .before .before in
     let room : length (now (s .args .«data»)) ≡ 8 = s .pre ∙ ap replySize (c .before .before .before .enum-told4 .given .1) in
     let bytes : length (s .args .config .capability) ≡ 8 = search needs in
+    omega arith
+
+copy-requires-5 : tie.Need-copy-requires-5
+unfolding replySize
+copy-requires-5 c κs =
+    let s = c .before .before .before .before .before in
+    let room : length (now (s .args .«data»)) ≡ 4 = s .pre ∙ ap replySize (c .before .before .enum-told5 .given .1) in
     omega arith
 
 returns : tie.Need-returns
@@ -85,12 +91,20 @@ returns-2 c =
     ∙ ap (λ (k : ReplyKind). front (replyBytes (s .args .config) (s .args .sectors) k) before) (sym (c .before .before .before .before .before .before .enum-told2 .given .1))
 
 returns-5 : tie.Need-returns-5
-unfolding replyBytes replySize writeStatus writing
+unfolding replyBytes
 returns-5 c =
+    let s = c .before .before .before .before .before .before .before .before in
+    let before = now (s .args .«data») in
+    copied-front storageBytes before (c .before .before .copy5 .last .1 .0) (c .before .before .copy5 .ensures .1)
+    ∙ ap (λ (k : ReplyKind). front (replyBytes (s .args .config) (s .args .sectors) k) before) (sym (c .before .before .before .before .before .enum-told5 .given .1))
+
+returns-6 : tie.Need-returns-6
+unfolding replyBytes replySize writeStatus writing
+returns-6 c =
     let s = c .before .before .before .before .before .before .before .before in
     let kind = c .before .before .before .before .before .kind in
     let before = now (s .args .«data») in
-    let status : CommandStatus = record { tag = kind .given .0 .0; residue = 0; status = SUCCESS } in
+    let status : CommandStatus = record { tag = kind .given .0 .0; residue = 0; status = kind .given .0 .1 .0 } in
     let room : length before ≡ statusLength = s .pre ∙ ap replySize (kind .given .1) in
     let sent : writeStatus status (length before) .sent ≡ statusBytes status = rw (le-ltb (length before) statusLength (omega arith)) refl in
     c .before .before .to-bytes .ensures .0 .leaves
@@ -115,6 +129,9 @@ reply-spec =
     (λ c. search needs)
     copy-requires-4
     (λ c. search needs)
+    (λ c. search needs)
+    copy-requires-5
+    (λ c. search needs)
     (λ c κs. search needs)
     (λ c. search needs)
     returns
@@ -125,4 +142,6 @@ reply-spec =
     (λ c. search needs)
     returns-4
     (λ c. search needs)
-    returns-5)
+    returns-5
+    (λ c. search needs)
+    returns-6)

@@ -3,6 +3,7 @@ use mathlib.Core.Path.{refl}
 use mathlib.Core.List.{[], _∷_}
 use borrow.Author.Needs.{needs}
 use borrow.Author.Tests.{eq-eqb, ne-eqb}
+use Rattle.protocol_codes.specs.declared.Status.the-variants.{SUCCESS}
 use Rattle.promise.specs.Rules.{orRefuse}
 use Rattle.mock_base.specs.Told.{errorValues}
 use Rattle.mock_base.specs.declared.error.MockTransportError.the-variants.{InvalidTransferLength}
@@ -26,7 +27,7 @@ unfolding replyTurn orRefuse
 returns-2 c =
     let z = c .before .before .reply-size in
     let a = c .before .before .before .args in
-    done-as (Status (a .command)) (a .reset) (Reply (a .reply)) (c .settle .ensures)
+    done-as (Status (a .command) SUCCESS) (a .reset) (Reply (a .reply)) (c .settle .ensures)
     (rw (← z .ensures, eq-eqb (a .actual) (z .result) (c .before .if1 .left)) refl)
 
 pub copy-reply-spec : {M : Type 1} → statement M

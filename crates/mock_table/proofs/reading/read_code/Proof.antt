@@ -30,10 +30,14 @@ unfolding codeTurn
 returns-5 c = rw (sym (c .before .before .before .before .before .before .before .before .before .before .has-code .ensures) ∙ c .before .before .before .before .before .before .before .before .before .if1 .left, sym (c .before .before .before .before .before .before .before .before .has-code2 .ensures) ∙ c .before .before .before .before .before .before .before .if2 .left, sym (c .before .before .before .before .before .before .has-code3 .ensures) ∙ c .before .before .before .before .before .if3 .left, sym (c .before .before .before .before .has-code4 .ensures) ∙ c .before .before .before .if4 .left, sym (c .before .before .has-code5 .ensures) ∙ c .before .if5 .taken) (c .sector-io .ensures)
 
 returns-6 : tie.Need-returns-6
+unfolding codeTurn
+returns-6 c = rw (sym (c .before .before .before .before .before .before .before .before .before .before .before .before .has-code .ensures) ∙ c .before .before .before .before .before .before .before .before .before .before .before .if1 .left, sym (c .before .before .before .before .before .before .before .before .before .before .has-code2 .ensures) ∙ c .before .before .before .before .before .before .before .before .before .if2 .left, sym (c .before .before .before .before .before .before .before .before .has-code3 .ensures) ∙ c .before .before .before .before .before .before .before .if3 .left, sym (c .before .before .before .before .before .before .has-code4 .ensures) ∙ c .before .before .before .before .before .if4 .left, sym (c .before .before .before .before .has-code5 .ensures) ∙ c .before .before .before .if5 .left, sym (c .before .before .tells-storage .ensures) ∙ c .before .if6 .taken) (c .copy-reply5 .ensures)
+
+returns-7 : tie.Need-returns-7
 unfolding codeTurn errorValues
-returns-6 c =
-    refused-as (c .before .before .before .before .before .before .before .before .before .before .before .args .reset) UnexpectedRead 54 [] refl (c .refuse .ensures)
-    (rw (sym (c .before .before .before .before .before .before .before .before .before .before .has-code .ensures) ∙ c .before .before .before .before .before .before .before .before .before .if1 .left, sym (c .before .before .before .before .before .before .before .before .has-code2 .ensures) ∙ c .before .before .before .before .before .before .before .if2 .left, sym (c .before .before .before .before .before .before .has-code3 .ensures) ∙ c .before .before .before .before .before .if3 .left, sym (c .before .before .before .before .has-code4 .ensures) ∙ c .before .before .before .if4 .left, sym (c .before .before .has-code5 .ensures) ∙ c .before .if5 .left) refl)
+returns-7 c =
+    refused-as (c .before .before .before .before .before .before .before .before .before .before .before .before .before .args .reset) UnexpectedRead 54 [] refl (c .refuse .ensures)
+    (rw (sym (c .before .before .before .before .before .before .before .before .before .before .before .before .has-code .ensures) ∙ c .before .before .before .before .before .before .before .before .before .before .before .if1 .left, sym (c .before .before .before .before .before .before .before .before .before .before .has-code2 .ensures) ∙ c .before .before .before .before .before .before .before .before .before .if2 .left, sym (c .before .before .before .before .before .before .before .before .has-code3 .ensures) ∙ c .before .before .before .before .before .before .before .if3 .left, sym (c .before .before .before .before .before .before .has-code4 .ensures) ∙ c .before .before .before .before .before .if4 .left, sym (c .before .before .before .before .has-code5 .ensures) ∙ c .before .before .before .if5 .left, sym (c .before .before .tells-storage .ensures) ∙ c .before .if6 .left) refl)
 
 pub read-code-spec : {M : Type 1} → statement M
 read-code-spec =
@@ -55,4 +59,7 @@ read-code-spec =
     (λ c κs. search needs)
     returns-5
     (λ c κs. search needs)
-    returns-6)
+    (λ c κs. search needs)
+    returns-6
+    (λ c κs. search needs)
+    returns-7)

@@ -16,20 +16,20 @@ unfolding readRow errorValues
 returns c =
     let a = c .before .before .before .args in
     refused-as (a .session .«last_reset») UnexpectedRead 54 [] refl (c .refuse .ensures)
-    (ap (λ (x : CommandState). readRow x (a .session .«last_reset») (a .sectors) (a .actual)) (c .before .enum-told .given .1))
+    (ap (λ (x : CommandState). readRow (a .variety) x (a .session .«last_reset») (a .sectors) (a .actual)) (c .before .enum-told .given .1))
 
 returns-2 : tie.Need-returns-2
 unfolding readRow
 returns-2 c =
     let a = c .before .before .before .before .args in
-    subst (λ (x : CommandState). OutcomeMeets (c .read-io .result) (readRow x (a .session .«last_reset») (a .sectors) (a .actual)))
+    subst (λ (x : CommandState). OutcomeMeets (c .read-io .result) (readRow (a .variety) x (a .session .«last_reset») (a .sectors) (a .actual)))
     (sym (c .before .before .state .given .1)) (c .read-io .ensures)
 
 returns-3 : tie.Need-returns-3
 unfolding readRow
 returns-3 c =
     let a = c .before .before .before .before .args in
-    subst (λ (x : CommandState). OutcomeMeets (c .read-status .result) (readRow x (a .session .«last_reset») (a .sectors) (a .actual)))
+    subst (λ (x : CommandState). OutcomeMeets (c .read-status .result) (readRow (a .variety) x (a .session .«last_reset») (a .sectors) (a .actual)))
     (sym (c .before .before .state2 .given .1)) (c .read-status .ensures)
 
 pub read-outcome-spec : {M : Type 1} → statement M

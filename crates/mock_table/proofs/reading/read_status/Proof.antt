@@ -27,7 +27,7 @@ unfolding statusTurn orRefuse
 returns-2 c =
     let z = c .before .before .reply-size in
     let a = c .before .before .before .args in
-    done-as None (a .reset) (Reply (Status (a .command .tag))) (c .settle .ensures)
+    done-as None (a .reset) (Reply (Status (a .command .tag) (a .status))) (c .settle .ensures)
     (rw (← z .ensures, eq-eqb (a .actual) (z .result) (c .before .if1 .left)) refl)
 
 pub read-status-spec : {M : Type 1} → statement M

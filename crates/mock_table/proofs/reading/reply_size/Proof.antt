@@ -24,6 +24,10 @@ returns-5 : tie.Need-returns-5
 unfolding replySize
 returns-5 c = rw (c .enum-told5 .given .1)
 
+returns-6 : tie.Need-returns-6
+unfolding replySize
+returns-6 c = rw (c .enum-told6 .given .1)
+
 pub reply-size-spec : {M : Type 1} → statement M
 reply-size-spec =
     tie.close
@@ -33,8 +37,10 @@ reply-size-spec =
     (λ c. search needs)
     (λ c. search needs)
     (λ c. search needs)
+    (λ c. search needs)
     returns
     returns-2
     returns-3
     returns-4
-    returns-5)
+    returns-5
+    returns-6)

@@ -4,13 +4,14 @@ use mathlib.Core.Path.{_≡_, refl, ap, sym, _∙_}
 use mathlib.Core.List.{[], _∷_}
 use borrow.Author.Needs.{needs}
 use borrow.Author.Tests.{eq-eqb, ne-eqb}
+use Rattle.protocol_codes.specs.declared.Status.the-variants.{SUCCESS}
 use Rattle.protocol_bytes.specs.Sector.{sectorSize}
 use Rattle.promise.specs.Rules.{orRefuse}
 use Rattle.mock_base.specs.Told.{errorValues}
 use Rattle.mock_base.specs.Flash.{rangeTold}
 use Rattle.mock_base.specs.declared.error.MockTransportError.the-variants.{OutOfRange, InvalidTransferLength}
 use Rattle.mock_base.proofs.Fitting.{within, outside}
-use Rattle.mock_table.specs.Turn.{movedBy}
+use Rattle.mock_table.specs.Ways.{movedBy}
 use Rattle.mock_table.specs.Table.{rangeOf, sectorTurn}
 use Rattle.mock_table.specs.declared.session.CommandState.the-variants.{Status}
 use Rattle.mock_table.proofs.Meets.{refused-as, done-as}
@@ -44,9 +45,9 @@ returns-3 c =
     let expected = a .command .«cd_length» * sectorSize in
     let fit = within (a .sectors) (a .command .«cd_address») (a .command .«cd_length») (s .range .given .0 .0)
     (sym (s .before .before .flash-range .ensures) ∙ ap rangeTold (s .range .given .1)) in
-    let moved : c .before .moved-by .result ≡ movedBy (a .direction) (rangeOf (a .command)) =
-    c .before .moved-by .ensures ∙ ap (movedBy (a .direction)) (fit .1) in
-    done-as (Status (a .command)) (a .reset) (movedBy (a .direction) (rangeOf (a .command)))
+    let moved : c .before .moved-by .result ≡ movedBy (a .variety) (a .direction) (rangeOf (a .command)) =
+    c .before .moved-by .ensures ∙ ap (movedBy (a .variety) (a .direction)) (fit .1) in
+    done-as (Status (a .command) SUCCESS) (a .reset) (movedBy (a .variety) (a .direction) (rangeOf (a .command)))
     (c .settle .ensures ∙ rw moved refl) (rw (fit .0, eq-eqb (a .actual) expected (c .before .before .if1 .left)) refl)
 
 pub sector-io-spec : {M : Type 1} → statement M

@@ -4,6 +4,7 @@ use mathlib.Core.List.{[], _∷_}
 use borrow.Author.Needs.{needs}
 use Rattle.promise.specs.Told.{given, refused}
 use Rattle.protocol_codes.specs.Numbers.{resetNumber, resetOpcodes}
+use Rattle.protocol_codes.specs.declared.Status.the-variants.{SUCCESS}
 use Rattle.protocol_codes.specs.Reading.{resetOf, resetReadTold}
 use Rattle.protocol_codes.proofs.Reading.{known-refused}
 use Rattle.mock_base.specs.Told.{errorValues}
@@ -34,7 +35,7 @@ returns-2 c =
     let a = s .before .before .before .args in
     let read : resetOf (a .command .«cd_opcode») ≡ given (s .known .given .0 .0) =
     sym (s .before .before .from-number .ensures) ∙ ap resetReadTold (s .known .given .1) in
-    done-as (Status (a .command)) (Some (s .known .given .0 .0)) Nothing (c .settle .ensures) (rw read refl)
+    done-as (Status (a .command) SUCCESS) (Some (s .known .given .0 .0)) Nothing (c .settle .ensures) (rw read refl)
 
 pub handle-reset-spec : {M : Type 1} → statement M
 handle-reset-spec =

@@ -21,7 +21,7 @@ returns c =
     let s = c .before .before .before .before .before in
     let a = s .before .before .args in
     let e = c .before .before .answer2 .given in
-    block-refused (s .from-bytes .result) (readCommand (now (a .«data»))) (s .from-bytes .ensures) (e .0 .0) (e .1) (a .reset) (a .sectors)
+    block-refused (a .variety) (a .block-size) (s .from-bytes .result) (readCommand (now (a .«data»))) (s .from-bytes .ensures) (e .0 .0) (e .1) (a .reset) (a .sectors)
     (c .refuse-block .ensures)
 
 -- the bytes are a command
@@ -36,7 +36,7 @@ unfolding startTurn
 returns-2 c =
     let s = c .before .before .before .before in
     let a = s .before .before .before .before .before .args in
-    subst (λ (t : Told CommandBlock). OutcomeMeets (c .handle-zero-length-command .result) (startTurn t (a .reset) (a .sectors))) (sym (read-as s))
+    subst (λ (t : Told CommandBlock). OutcomeMeets (c .handle-zero-length-command .result) (startTurn (a .variety) (a .block-size) t (a .reset) (a .sectors))) (sym (read-as s))
     (rw (eq-eqb (s .answer .given .0 .0 .«transfer_length») 0 (c .before .if1 .taken)) (c .handle-zero-length-command .ensures))
 
 returns-3 : tie.Need-returns-3
@@ -46,7 +46,7 @@ returns-3 c =
     let a = s .before .before .before .before .before .args in
     let command = s .answer .given .0 .0 in
     done-as (IO command) (a .reset) Nothing (c .settle .ensures)
-    (ap (λ (t : Told CommandBlock). startTurn t (a .reset) (a .sectors)) (read-as s)
+    (ap (λ (t : Told CommandBlock). startTurn (a .variety) (a .block-size) t (a .reset) (a .sectors)) (read-as s)
     ∙ rw (ne-eqb (command .«transfer_length») 0 (c .before .if1 .left)) refl)
 
 pub start-command-spec : {M : Type 1} → statement M

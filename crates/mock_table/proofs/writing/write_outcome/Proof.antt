@@ -17,7 +17,7 @@ unfolding writeRow
 returns c =
     let a = c .before .before .before .before .args in
     subst
-    (λ (x : CommandState). OutcomeMeets (c .start-command .result) (writeRow x (a .session .«last_reset») (a .sectors) (now (a .«data»))))
+    (λ (x : CommandState). OutcomeMeets (c .start-command .result) (writeRow (a .variety) (a .block-size) x (a .session .«last_reset») (a .sectors) (now (a .«data»))))
     (sym (c .before .enum-told .given .1)) (c .start-command .ensures)
 
 returns-2 : tie.Need-returns-2
@@ -25,7 +25,7 @@ unfolding writeRow
 returns-2 c =
     let a = c .before .before .before .before .before .args in
     subst
-    (λ (x : CommandState). OutcomeMeets (c .write-io .result) (writeRow x (a .session .«last_reset») (a .sectors) (now (a .«data»))))
+    (λ (x : CommandState). OutcomeMeets (c .write-io .result) (writeRow (a .variety) (a .block-size) x (a .session .«last_reset») (a .sectors) (now (a .«data»))))
     (sym (c .before .before .state .given .1)) (c .write-io .ensures)
 
 returns-3 : tie.Need-returns-3
@@ -33,7 +33,7 @@ unfolding writeRow errorValues
 returns-3 c =
     let a = c .before .before .before .before .args in
     refused-as (a .session .«last_reset») UnexpectedWrite 55 [] refl (c .refuse .ensures)
-    (ap (λ (x : CommandState). writeRow x (a .session .«last_reset») (a .sectors) (now (a .«data»))) (c .before .enum-told2 .given .1))
+    (ap (λ (x : CommandState). writeRow (a .variety) (a .block-size) x (a .session .«last_reset») (a .sectors) (now (a .«data»))) (c .before .enum-told2 .given .1))
 
 pub write-outcome-spec : {M : Type 1} → statement M
 write-outcome-spec =

@@ -4,9 +4,9 @@ use super::make::{Block, CODES, Case, Rng, any_data, damage, x};
 
 pub const READ_LBA: u8 = 0x14;
 pub const WRITE_LBA: u8 = 0x15;
-const ERASE_FORCE: u8 = 0x0b;
-const ERASE_LBA: u8 = 0x25;
-const RESET: u8 = 0xff;
+pub const ERASE_FORCE: u8 = 0x0b;
+pub const ERASE_LBA: u8 = 0x25;
+pub const RESET: u8 = 0xff;
 pub const IN: u8 = 0x80;
 pub const OUT: u8 = 0;
 
@@ -177,7 +177,7 @@ fn controls() -> Vec<Case> {
     vec![wrong, between, filling, tiny]
 }
 
-fn creations() -> Vec<Case> {
+pub fn creations() -> Vec<Case> {
     let mut cases = Vec::new();
     for len in [0, 1, 511, 512, 513, 1024] {
         let mut lines = vec![configured(80, &format!("r {len} 0"))];
@@ -234,21 +234,26 @@ fn sequence(rng: &mut Rng, least: usize, more: usize) -> Case {
     let mut lines = vec![start];
     let until = least + rng.below(more);
     while lines.len() < until {
-        let mut calls = transaction(rng, sectors);
-        if rng.one_in(4) {
-            let at = rng.below(calls.len());
-            match rng.below(3) {
-                0 => drop(calls.remove(at)),
-                1 => calls.insert(at, noise(rng)),
-                _ => calls[at] = noise(rng),
-            }
-        }
-        lines.extend(calls);
+        let calls = transaction(rng, sectors);
+        lines.extend(disturbed(rng, calls));
         if rng.one_in(5) {
             lines.push(noise(rng));
         }
     }
     lines
+}
+
+/// One in four transactions has a call less, or more, or another.
+pub fn disturbed(rng: &mut Rng, mut calls: Vec<String>) -> Vec<String> {
+    if rng.one_in(4) {
+        let at = rng.below(calls.len());
+        match rng.below(3) {
+            0 => drop(calls.remove(at)),
+            1 => calls.insert(at, noise(rng)),
+            _ => calls[at] = noise(rng),
+        }
+    }
+    calls
 }
 
 pub fn transaction(rng: &mut Rng, sectors: usize) -> Vec<String> {
@@ -292,7 +297,7 @@ pub fn transaction(rng: &mut Rng, sectors: usize) -> Vec<String> {
     calls
 }
 
-fn noise(rng: &mut Rng) -> String {
+pub fn noise(rng: &mut Rng) -> String {
     match rng.below(8) {
         0 => "lst".into(),
         1 => format!("are {}", rng.below(12)),

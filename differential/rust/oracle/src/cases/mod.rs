@@ -4,6 +4,7 @@ pub mod blocks;
 pub mod decks;
 pub mod device;
 pub mod make;
+pub mod nor;
 pub mod operations;
 pub mod replies;
 pub mod runs;
@@ -23,13 +24,14 @@ pub enum Kind {
     Runs,
     Uploads,
     Decks,
+    Nor,
     /// Images to 4 MiB; not one of `all`.
     Large,
     /// Flashes to 65,536 sectors; not one of `all`.
     Sizes,
 }
 
-pub const ALL: [Kind; 8] = [
+pub const ALL: [Kind; 9] = [
     Kind::Blocks,
     Kind::Status,
     Kind::Replies,
@@ -38,6 +40,7 @@ pub const ALL: [Kind; 8] = [
     Kind::Runs,
     Kind::Uploads,
     Kind::Decks,
+    Kind::Nor,
 ];
 
 impl Kind {
@@ -51,6 +54,7 @@ impl Kind {
             Kind::Runs => "runs",
             Kind::Uploads => "uploads",
             Kind::Decks => "decks",
+            Kind::Nor => "nor",
             Kind::Large => "large",
             Kind::Sizes => "sizes",
         }
@@ -74,6 +78,7 @@ impl Kind {
             Kind::Runs => runs::exhaustive(),
             Kind::Uploads => uploads::exhaustive(),
             Kind::Decks => decks::exhaustive(),
+            Kind::Nor => nor::exhaustive(),
             Kind::Large => Vec::new(),
             Kind::Sizes => sizes::exhaustive(),
         }
@@ -89,6 +94,7 @@ impl Kind {
             Kind::Runs => runs::random(rng),
             Kind::Uploads => uploads::random(rng),
             Kind::Decks => decks::random(rng),
+            Kind::Nor => nor::random(rng),
             Kind::Large => uploads::large(rng),
             Kind::Sizes => sizes::random(rng),
         }
@@ -100,12 +106,30 @@ impl Kind {
     }
 }
 
-/// The exhaustive cases of each kind, then random ones in turn until there are `count` lines of these.
+/// What random cases are drawn from. The kind `nor` came after the others and draws apart, so that these have the same
+/// cases by a seed as before it came.
+pub struct Draws {
+    nor: Rng,
+    others: Rng,
+}
+
+impl Draws {
+    pub fn new(seed: u64) -> Draws {
+        Draws { nor: Rng::new(!seed), others: Rng::new(seed) }
+    }
+
+    pub fn of(&mut self, kind: Kind) -> &mut Rng {
+        if kind == Kind::Nor { &mut self.nor } else { &mut self.others }
+    }
+}
+
+/// The exhaustive cases of each kind, then random ones in turn until there are `count` lines of these; those of `nor` are
+/// counted where it is alone.
 pub fn generate(kinds: &[Kind], seed: u64, count: usize) -> impl Iterator<Item = (Kind, Case)> + use<> {
     let kinds = kinds.to_vec();
     let fixed: Vec<(Kind, Case)> =
         kinds.iter().flat_map(|kind| kind.exhaustive().into_iter().map(|case| (*kind, case))).collect();
-    let mut rng = Rng::new(seed);
+    let mut draws = Draws::new(seed);
     let mut lines = 0;
     let mut turn = 0;
     let random = std::iter::from_fn(move || {
@@ -114,8 +138,9 @@ pub fn generate(kinds: &[Kind], seed: u64, count: usize) -> impl Iterator<Item =
         }
         let kind = kinds[turn % kinds.len()];
         turn += 1;
-        let case = kind.random(&mut rng);
-        lines += case.len();
+        let case = kind.random(draws.of(kind));
+        let is_counted = kind != Kind::Nor || kinds.len() == 1;
+        lines += if is_counted { case.len() } else { 0 };
         Some((kind, case))
     });
     fixed.into_iter().chain(random)

@@ -87,7 +87,7 @@ fn budgets(op: &str) -> Case {
 }
 
 /// Steps taken by hand that the device never saw, and what comes of going on after its refusals.
-fn after_steps(op: &str) -> Case {
+pub fn after_steps(op: &str) -> Case {
     let mut lines = vec![small()];
     for steps in 1..=3 {
         lines.push(format!("opn {op}"));
@@ -98,7 +98,7 @@ fn after_steps(op: &str) -> Case {
 }
 
 /// A device in the middle of a transaction refuses the command and is free again.
-fn left_open() -> Case {
+pub fn left_open() -> Case {
     let mut lines = vec![small()];
     let open = [Block::of(READ_LBA, IN, 512), Block::of(WRITE_LBA, OUT, 512), Block::of(0xff, OUT, 0)];
     for block in open {
@@ -115,7 +115,7 @@ fn left_open() -> Case {
     lines
 }
 
-fn command_sent_by_hand() -> Case {
+pub fn command_sent_by_hand() -> Case {
     let mut lines = vec![small()];
     for tag in [77, 78] {
         lines.push("opn rdl 77 2 f 512 0".into());
@@ -127,7 +127,7 @@ fn command_sent_by_hand() -> Case {
 }
 
 /// In slots of 8,192 bytes.
-fn uploads() -> Vec<Case> {
+pub fn uploads() -> Vec<Case> {
     let mut cases = Vec::new();
     for len in [0, 1, 4093, 4094, 4095, 4096, 8000, 8189] {
         let needed = len / 4096 + 4;
@@ -164,14 +164,17 @@ pub fn random(rng: &mut Rng) -> Case {
             }
             1 => lines.extend(transaction(rng, sectors).into_iter().take(1)),
             2 => lines.push(control(rng, 3)),
-            _ => random_run(rng, sectors, &mut lines),
+            _ => {
+                let start = random_op(rng, sectors).start;
+                random_run(rng, start, &mut lines);
+            }
         }
     }
     lines
 }
 
-fn random_run(rng: &mut Rng, sectors: usize, lines: &mut Vec<String>) {
-    lines.push(random_op(rng, sectors).start);
+pub fn random_run(rng: &mut Rng, start: String, lines: &mut Vec<String>) {
+    lines.push(start);
     if rng.one_in(8) {
         lines.push(format!("stp {} {}", 31 + rng.below(3), rng.byte()));
     }
@@ -186,7 +189,7 @@ fn enough(rng: &mut Rng) -> usize {
     if rng.one_in(4) { 4 + rng.below(9_997) } else { 4 + rng.below(3) }
 }
 
-fn random_upload(rng: &mut Rng, area: usize, lines: &mut Vec<String>) {
+pub fn random_upload(rng: &mut Rng, area: usize, lines: &mut Vec<String>) {
     let mut len = rng.pick(&[0, 1, 2, 20, 50, 300, 4093, 4094, 4095, 4096, 5000, 8189]);
     for _ in 0..1 + rng.below(2) {
         lines.push(format!("upl {area} {} {}", rng.below(2), any_data(rng, len)));

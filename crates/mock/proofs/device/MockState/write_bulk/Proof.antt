@@ -9,7 +9,7 @@ returns : tie.Need-returns
 unfolding writeBulk
 returns c =
     let a = c .before .before .before .before .before .before .before .before .args in
-    let m = c .before .before .before .write-step .ensures in
+    let m = c .before .before .before .write-step-by .ensures in
     rw (c .after-session .ensures, ← c .before .before .before .before .before .session .ensures)
     (record { tells = m .tells; next = ap (withSession (a .self)) (m .next); leaves = m .leaves })
 
