@@ -8,6 +8,7 @@ use Rattle.mock.specs.declared.device.MockState.{MockState}
 use Rattle.mock_base.specs.Config.{defaultConfig, defaultByte}
 use Rattle.mock_base.specs.Flash.{flashSectors}
 use Rattle.mock_base.specs.Told.{Answers}
+use Rattle.mock_base.specs.declared.cells.Variety.the-variants.{First}
 use Rattle.mock.specs.Device.{freshState}
 use Rattle.deck.specs.Verdict.{verdictTold, besideDealt}
 use Rattle.deck.specs.Deal.{Deal, head}
@@ -18,7 +19,7 @@ use Rattle.deck.specs.Dealing.{dealBlock}
 
 -- "The device starts as the Rust's default"
 abbrev pub freshBench : ℕ → Bench
-freshBench storeLength = record { device = freshState defaultConfig storeLength; number = 0; tag = 0 }
+freshBench storeLength = record { device = freshState First defaultConfig storeLength; number = 0; tag = 0 }
 
 -- 60 and 61 for a lent flash of so many bytes
 abbrev pub startTold : ℕ → Told Unit

@@ -15,6 +15,7 @@ use Rattle.operation.specs.declared.steps.UsbOperation.{UsbOperation}
 use Rattle.operation.specs.Record.{fresh}
 use Rattle.mock.specs.declared.device.MockState.{MockState}
 use Rattle.mock_base.specs.Config.{defaultConfig}
+use Rattle.mock_base.specs.declared.cells.Variety.the-variants.{First}
 use Rattle.mock.specs.Device.{freshState}
 use Rattle.promise.specs.Run.{endTold, Ran}
 use Rattle.run_turn.specs.Turn.{UsbState, usbState}
@@ -54,7 +55,7 @@ countsAfter (given (storage index)) before = before
 countsAfter (refused n vs) before = before
 
 abbrev pub device : MockState
-device = freshState defaultConfig 0
+device = freshState First defaultConfig 0
 
 unfoldable pub ranTo : Ran Reply UsbState → List ℕ → Carried
 ranTo run counts =

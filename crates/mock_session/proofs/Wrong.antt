@@ -9,12 +9,14 @@ use Rattle.promise.specs.Bytes.{lowFirst, highFirst}
 use Rattle.promise.specs.Over.{over}
 use Rattle.protocol_codes.specs.Numbers.{resetNumber}
 use Rattle.protocol_codes.specs.declared.ResetOpcode.the-variants.{Maskrom}
+use Rattle.protocol_codes.specs.declared.Status.the-variants.{SUCCESS}
 use Rattle.protocol.specs.Commands.{writeLbaCommand}
 use Rattle.protocol.specs.declared.CommandBlock.{CommandBlock}
 use Rattle.protocol_status.specs.StatusBytes.{statusBytes}
 use Rattle.mock_base.specs.Flash.{flashRules, flashSectors, fitsIn}
 use Rattle.mock_base.specs.declared.error.MockAnswer.{MockAnswer}
-use Rattle.mock_table.specs.Turn.{refuses, done, hasCode, isOut, movedBy, replySize}
+use Rattle.mock_table.specs.Turn.{refuses, done, hasCode, isOut, replySize}
+use Rattle.mock_table.specs.Ways.{storedBy, movedBy}
 use Rattle.mock_table.specs.Table.{sectorTurn, writeIoTurn, writeRow, statusTurn, readRow}
 use Rattle.mock_table.specs.declared.session.CommandState.{CommandState}
 use Rattle.mock_table.specs.declared.session.CommandState.the-variants.{None, IO, Status}
@@ -22,8 +24,8 @@ use Rattle.mock_table.specs.declared.session.LastReset.{LastReset}
 use Rattle.mock_table.specs.declared.session.LastReset.the-variants as reset
 use Rattle.mock_table.specs.declared.session.Session.{Session}
 use Rattle.mock_base.specs.declared.config.MockDeviceConfig.{MockDeviceConfig}
-use Rattle.mock_effects.specs.Effects.{flashAfter, replyBytes, bufferAfter}
-use Rattle.mock_effects.specs.Steps.{writeStepOf, writeStep, readStepOf, readStep, StepMeets}
+use Rattle.mock_effects.specs.Effects.{flashAfter, pendingAfter, replyBytes, bufferAfter}
+use Rattle.mock_effects.specs.Steps.{pend, writeStepOf, writeStepBy, writeStep, readStepOf, readStepBy, readStep, StepMeets}
 use Rattle.mock_effects.specs.declared.SessionStep.{SessionStep}
 use Rattle.mock_session.specs.Start.{freshSession, startStepOf, startStep}
 use Rattle.mock_session.specs.Lent.{CallMeets}
@@ -32,7 +34,7 @@ use Rattle.mock_session.specs.Lent.{CallMeets}
 abbrev stateNumber : CommandState → ℕ
 stateNumber None = 0
 stateNumber (IO c) = 1
-stateNumber (Status c) = 2
+stateNumber (Status c status) = 2
 
 abbrev waits : Session → ℕ
 waits s = stateNumber (s .«current_command»)
@@ -56,7 +58,7 @@ abbrev forData : Session
 forData = record { «current_command» = IO command; «last_reset» = reset.Some Maskrom }
 
 abbrev forStatus : Session
-forStatus = record { «current_command» = Status command; «last_reset» = reset.Some Maskrom }
+forStatus = record { «current_command» = Status command SUCCESS; «last_reset» = reset.Some Maskrom }
 
 -- `fresh`: a reset at first
 pub reset-at-first : (s : Session) → s .«last_reset» ≡ reset.Some Maskrom → s ≡ freshSession → ⊥
@@ -87,23 +89,23 @@ start-changes-nothing r meets = let z : _≡_ {A = ℕ} 2 0 = ap waits (meets .n
 
 -- `write_bulk`: the record behind the reference left as it was
 pub write-keeps-the-record : (r : MockAnswer) (after : List ℕ) → CallMeets r forStatus after (writeStep forStatus flash ones) → ⊥
-unfolding writeStep writeStepOf flashSectors flashRules orRefuse writeRow refuses
+unfolding writeStepBy writeStepOf flashSectors flashRules orRefuse writeRow refuses pendingAfter pend
 write-keeps-the-record r after meets = let z : _≡_ {A = ℕ} 2 0 = ap waits (meets .next) in omega arith
 
 -- the flash left as it was
 pub write-leaves-the-flash : (r : MockAnswer) (s : Session) → CallMeets r s flash (writeStep forData flash ones) → ⊥
-unfolding writeStep writeStepOf flashSectors flashRules orRefuse writeRow writeIoTurn sectorTurn isOut hasCode fitsIn done movedBy flashAfter over
+unfolding writeStepBy writeStepOf flashSectors flashRules orRefuse writeRow writeIoTurn sectorTurn isOut hasCode fitsIn done movedBy storedBy flashAfter over
 write-leaves-the-flash r s meets = let z : _≡_ {A = ℕ} 0 1 = ap (λ (l : List ℕ). getD l 0 0) (meets .leaves) in omega arith
 
 module _ (config : MockDeviceConfig) where
   -- `read_bulk`: the record behind the reference left as it was
   pub read-keeps-the-record : (r : MockAnswer) (after : List ℕ) → CallMeets r forStatus after (readStep forStatus config flash []) → ⊥
-  unfolding readStep readStepOf flashSectors flashRules orRefuse readRow statusTurn replySize refuses
+  unfolding readStepBy readStepOf flashSectors flashRules orRefuse readRow statusTurn replySize refuses
   read-keeps-the-record r after meets = let z : _≡_ {A = ℕ} 2 0 = ap waits (meets .next) in omega arith
 
   -- the buffer of a status left as it was
   pub read-fills-nothing : (r : MockAnswer) (s : Session) → CallMeets r s (replicate 13 0) (readStep forStatus config flash (replicate 13 0)) → ⊥
-  unfolding readStep readStepOf flashSectors flashRules orRefuse readRow statusTurn replySize done bufferAfter replyBytes statusBytes lowFirst highFirst
+  unfolding readStepBy readStepOf flashSectors flashRules orRefuse readRow statusTurn replySize done bufferAfter replyBytes statusBytes lowFirst highFirst
   read-fills-nothing r s meets = let z : _≡_ {A = ℕ} 0 0x55 = ap (λ (l : List ℕ). getD l 0 0) (meets .leaves) in omega arith
 
 -- `look`: a fresh record whatever is lent

@@ -57,6 +57,8 @@ none-beside error.NoSlot = refl
 none-beside error.SlotFull = refl
 none-beside (error.FlashSize n) = refl
 none-beside error.TooManySectors = refl
+none-beside error.ZeroBlockSize = refl
+none-beside error.UnalignedErase = refl
 none-beside error.StoreLength = refl
 
 module _ (op : UsbOperation) (device : MockState) (flash bytes : List ℕ) where

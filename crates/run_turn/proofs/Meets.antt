@@ -59,6 +59,8 @@ error-signature error.NoSlot g = refl
 error-signature error.SlotFull g = refl
 error-signature (error.FlashSize n) g = refl
 error-signature error.TooManySectors g = refl
+error-signature error.ZeroBlockSize g = refl
+error-signature error.UnalignedErase g = refl
 error-signature error.StoreLength g = refl
 
 -- the device's answer is told, with the signature that it has beside it, and nothing else changes

@@ -65,6 +65,8 @@ device-for error.NoSlot g = refl
 device-for error.SlotFull g = refl
 device-for (error.FlashSize n) g = refl
 device-for error.TooManySectors g = refl
+device-for error.ZeroBlockSize g = refl
+device-for error.UnalignedErase g = refl
 device-for error.StoreLength g = refl
 
 abbrev errorIn : MockResult → MockTransportError

@@ -47,6 +47,8 @@ apart error.NoSlot = (refl, refl)
 apart error.SlotFull = (refl, refl)
 apart (error.FlashSize n) = (refl, refl)
 apart error.TooManySectors = (refl, refl)
+apart error.ZeroBlockSize = (refl, refl)
+apart error.UnalignedErase = (refl, refl)
 apart error.StoreLength = (refl, refl)
 
 stop-for : (s : LoadStop) → stopFor (loadStopTold s) ≡ s

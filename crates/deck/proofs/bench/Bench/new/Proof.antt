@@ -9,7 +9,9 @@ use Rattle.mock_base.specs.declared.config.MockDeviceConfig.{MockDeviceConfig}
 use Rattle.mock_base.specs.declared.error.MockAnswer.{MockAnswer}
 use Rattle.mock.specs.declared.device.MockState.{MockState}
 use Rattle.mock.specs.declared.device.MockStep.{MockStep}
-use Rattle.mock.specs.Device.{freshState, created, CreateMeets}
+use Rattle.mock_base.specs.declared.cells.Variety.the-variants.{First}
+use Rattle.promise.specs.Rules.{orRefuse}
+use Rattle.mock.specs.Device.{freshState, blockRules, createTold, created, CreateMeets}
 use Rattle.mock_base.specs.Config.{defaultConfig}
 use Rattle.mock_base.specs.Told.{Answers}
 use Rattle.deck.specs.declared.bench.Bench.{Bench}
@@ -19,15 +21,15 @@ use Rattle.deck.proofs.bench.Bench.new.Statement.{statement}
 use Rattle.deck.proofs.bench.Bench.new.Tie as tie
 
 -- what the device's creation says of answer and bench
-tells : (r : MockStep) (config : MockDeviceConfig) (flash store : ℕ) → CreateMeets r (created config flash store) → Answers (r .answer) (startTold flash)
-unfolding created
+tells : (r : MockStep) (config : MockDeviceConfig) (flash store : ℕ) → CreateMeets r (created First config flash store) → Answers (r .answer) (startTold flash)
+unfolding created createTold blockRules orRefuse
 tells r config flash store m = m .tells
 
-fresh : (r : MockStep) (config : MockDeviceConfig) (flash store : ℕ) → config ≡ defaultConfig → CreateMeets r (created config flash store)
+fresh : (r : MockStep) (config : MockDeviceConfig) (flash store : ℕ) → config ≡ defaultConfig → CreateMeets r (created First config flash store)
     → benchAt (r .state) 0 0 ≡ freshBench store
 unfolding created
 fresh r config flash store e m =
-    ap (λ (d : MockState). benchAt d 0 0) (m .fresh ∙ ap (λ (k : MockDeviceConfig). freshState k store) e)
+    ap (λ (d : MockState). benchAt d 0 0) (m .fresh ∙ ap (λ (k : MockDeviceConfig). freshState First k store) e)
 
 returns : tie.Need-returns
 returns c =
