@@ -44,7 +44,7 @@ pub record Stored (v : Variety) (c : CommandBlock) (flash bytes after : List ℕ
   pub size : length bytes ≡ c .«cd_length» * sectorSize
   pub pending : next ≡ Status c (told v c bytes flash)
 
-pend-told : (status : pending.Status) (c : CommandBlock) → pend status (Status c SUCCESS) ≡ Status c status
+pub pend-told : (status : pending.Status) (c : CommandBlock) → pend status (Status c SUCCESS) ≡ Status c status
 unfolding pend failed
 pend-told SUCCESS c = refl
 pend-told FAILED c = refl

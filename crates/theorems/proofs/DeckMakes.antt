@@ -22,6 +22,8 @@ use Rattle.operation_finish.specs.declared.Kind.{Kind}
 use Rattle.operation_finish.specs.declared.Kind.the-variants as kind
 use Rattle.operation.specs.Record.{fresh}
 use Rattle.maskrom.specs.Whole.{freshWhole}
+use Rattle.mock_base.specs.declared.cells.Variety.{Variety}
+use Rattle.mock_base.specs.declared.cells.Variety.the-variants.{First, Nor}
 use Rattle.mock_base.specs.declared.config.MockDeviceConfig.{MockDeviceConfig}
 use Rattle.mock_base.specs.Config.{defaultConfig}
 use Rattle.mock.specs.declared.device.MockState.{MockState}
@@ -97,21 +99,21 @@ asked-in-bytes tag block r bytes e =
     (by-kind InBytesTold f (p .kind) tt tt tt tt tt tt (λ k. tt) (λ k. bytes 7) (reset-in-bytes (resetOf (f .byte))) tt (storage-byte (f .byte) (bytes 7))
     (λ k. tt) (λ k. tt))
 
-module _ (config : MockDeviceConfig) (n : ℕ) where
+module _ (v : Variety) (config : MockDeviceConfig) (n : ℕ) where
   abbrev Keeps : Head → Type 0
-  Keeps h = Made config n (h .device)
+  Keeps h = Made v config n (h .device)
 
   module _ (h : Head) (made : Keeps h) where
     by-run : (k : Kind) (c : CommandBlock) (bytes : List ℕ) → c .lun < 256 → c .«cdb_length» < 256 → c .«cd_opcode» < 256
         → (isWrite k ≡ true → AreBytes bytes) → Keeps (operate (fresh k c) bytes h .leaves)
     unfolding operate
     by-run k c bytes lun cdb opcode lent =
-        run-leaves-made config n (fresh k c) (h .device) (h .flash) bytes (length (h .store)) 4 made (command-goes-out-as-bytes (fresh k c) lun cdb opcode) lent
+        run-leaves-made v config n (fresh k c) (h .device) (h .flash) bytes (length (h .store)) 4 made (command-goes-out-as-bytes (fresh k c) lun cdb opcode) lent
 
     by-load : (area : ℕ) (checked : Bool) (image : List ℕ) → Keeps (load area checked image h .leaves)
     unfolding loadOf
     by-load area checked image =
-        upload-leaves-made config n (freshWhole area checked (length image)) (h .device) image (h .store) (length (h .flash)) (uploadBudget (length image)) made
+        upload-leaves-made v config n (freshWhole area checked (length image)) (h .device) image (h .store) (length (h .flash)) (uploadBudget (length image)) made
 
     -- a command that has no opcode, without data of its own
     plain : (k : Kind) (c : CommandBlock) → c .lun < 256 → c .«cdb_length» < 256 → c .«cd_opcode» < 256 → Keeps (operate (fresh k c) [] h .leaves)
@@ -147,31 +149,31 @@ module _ (config : MockDeviceConfig) (n : ℕ) where
     block-leaves-made tag block bytes = dealt tag block (readCard tag block) bytes refl
 
   -- over the contract of `deal_block`; a block is bytes
-  pub deal-block-makes : (r : Dealt) (device : MockState) (tag : ℕ) (block flash store left kept : List ℕ) → Made config n device → AreBytes block
-      → DealMeets r left kept (dealBlock tag block (head device flash store)) → Made config n (r .device)
+  pub deal-block-makes : (r : Dealt) (device : MockState) (tag : ℕ) (block flash store left kept : List ℕ) → Made v config n device → AreBytes block
+      → DealMeets r left kept (dealBlock tag block (head device flash store)) → Made v config n (r .device)
   deal-block-makes r device tag block flash store left kept made bytes m =
       subst Keeps (sym (m .leaves)) (block-leaves-made (head device flash store) made tag block bytes)
 
   -- over the contract of `Bench::deal`
-  pub deal-makes : (r : DeckStep) (bench : Bench) (block flash store left kept : List ℕ) → Made config n (bench .device) → AreBytes block
-      → StepMeets r left kept bench block flash store → Made config n (r .bench .device)
+  pub deal-makes : (r : DeckStep) (bench : Bench) (block flash store left kept : List ℕ) → Made v config n (bench .device) → AreBytes block
+      → StepMeets r left kept bench block flash store → Made v config n (r .bench .device)
   deal-makes r bench block flash store left kept made bytes m =
       subst Keeps (sym (m .leaves)) (block-leaves-made (head (bench .device) flash store) made (nextTag bench) block bytes)
 
   -- what is made of a run's record has the run's device
-  pub operated-makes : (r : Dealt) (ran : UsbRun) → Made config n (ran .device) → OperatedMeets r ran → Made config n (r .device)
-  operated-makes r ran made m = subst (λ (d : MockState). Made config n d) (sym (m .device)) made
+  pub operated-makes : (r : Dealt) (ran : UsbRun) → Made v config n (ran .device) → OperatedMeets r ran → Made v config n (r .device)
+  operated-makes r ran made m = subst (λ (d : MockState). Made v config n d) (sym (m .device)) made
 
-  pub loaded-makes : (r : Dealt) (ran : LoadRun) → Made config n (ran .device) → LoadedMeets r ran → Made config n (r .device)
-  loaded-makes r ran made m = subst (λ (d : MockState). Made config n d) (sym (m .device)) made
+  pub loaded-makes : (r : Dealt) (ran : LoadRun) → Made v config n (ran .device) → LoadedMeets r ran → Made v config n (r .device)
+  loaded-makes r ran made m = subst (λ (d : MockState). Made v config n d) (sym (m .device)) made
 
-  pub turned-away-makes : (r : Dealt) (number : ℕ) (device : MockState) → Made config n device → r ≡ turnedAway number device → Made config n (r .device)
-  turned-away-makes r number device made e = subst (λ (d : Dealt). Made config n (d .device)) (sym e) made
+  pub turned-away-makes : (r : Dealt) (number : ℕ) (device : MockState) → Made v config n device → r ≡ turnedAway number device → Made v config n (r .device)
+  turned-away-makes r number device made e = subst (λ (d : Dealt). Made v config n (d .device)) (sym e) made
 
   -- chunks
 
   abbrev TableKeeps : Table → Type 0
-  TableKeeps t = Made config n (t .deck .bench .device)
+  TableKeeps t = Made v config n (t .deck .bench .device)
 
   next-leaves-made : (block : List ℕ) (t : Table) → AreBytes block → TableKeeps t → TableKeeps (dealNext block t .leaves)
   unfolding dealNext
@@ -187,8 +189,8 @@ module _ (config : MockDeviceConfig) (n : ℕ) where
       (next-leaves-made (take 512 input) t (are-take 512 input bytes) made)
 
   -- over the contract of `Deck::deal_chunk`; a chunk is bytes
-  pub deal-chunk-makes : (r : ChunkStep) (deck : Deck) (chunk flash store lines left kept now : List ℕ) → Made config n (deck .bench .device) → AreBytes chunk
-      → ChunkMeets r now left kept (dealChunk chunk (table deck flash store) lines) → Made config n (r .deck .bench .device)
+  pub deal-chunk-makes : (r : ChunkStep) (deck : Deck) (chunk flash store lines left kept now : List ℕ) → Made v config n (deck .bench .device) → AreBytes chunk
+      → ChunkMeets r now left kept (dealChunk chunk (table deck flash store) lines) → Made v config n (r .deck .bench .device)
   unfolding dealChunk
   deal-chunk-makes r deck chunk flash store lines left kept now made bytes m =
       let t = table deck flash store in
@@ -198,8 +200,8 @@ module _ (config : MockDeviceConfig) (n : ℕ) where
       (λ number values. made) (λ met. cut-leaves-made (begun (length chunk)) chunk t bytes made))
 
 -- over the contract of `Bench::new`, refused or not: the Rust's default
-pub bench-new-makes : (r : BenchStart) (after flash : List ℕ) (n : ℕ) → StartMeets r after flash n → Made defaultConfig n (r .bench .device)
+pub bench-new-makes : (r : BenchStart) (after flash : List ℕ) (n : ℕ) → StartMeets r after flash n → Made First defaultConfig n (r .bench .device)
 unfolding created
 bench-new-makes r after flash n m =
-    let fresh : Made defaultConfig n (created defaultConfig (length flash) n .fresh) = creates (length flash) in
-    subst (λ (b : Bench). Made defaultConfig n (b .device)) (sym (m .fresh)) fresh
+    let fresh : Made First defaultConfig n (created First defaultConfig (length flash) n .fresh) = creates (length flash) in
+    subst (λ (b : Bench). Made First defaultConfig n (b .device)) (sym (m .fresh)) fresh

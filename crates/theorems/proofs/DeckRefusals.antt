@@ -27,7 +27,9 @@ use Rattle.deck_block.proofs.Fitting.{asked-named}
 use Rattle.deck_block.proofs.Refusals.{card-told}
 use Rattle.deck_block.specs.Refusals.{isAmong, blockRefusals, CardTold}
 use Rattle.deck.specs.Verdict.{numbered, loadTold}
+use Rattle.mock_base.specs.declared.cells.Variety.the-variants.{First}
 use Rattle.deck.specs.Deal.{Head}
+use Rattle.mock_base.specs.declared.cells.Variety.the-variants.{First}
 use Rattle.deck.specs.Dealing.{operate, loadOf, load, carryOut, dealAsked, dealBlock}
 use Rattle.theorems.specs.Deck.{Ready, doneRefusals, BenchTold}
 
@@ -39,12 +41,12 @@ among-more : (n : ℕ) (xs ys : List ℕ) → isAmong n xs ≡ true → isAmong 
 among-more n [] ys h = let z : _≡_ {A = ℕ} 0 1 = ap (λ (b : Bool). pick b 1 0) h in absurd (omega arith)
 among-more n (x ∷ xs) ys h = either (eqb n x) (isAmong n xs) (isAmong n (xs ++ ys)) (among-more n xs ys) h
 
-operation-numbered : (t : Told Reply) → ends.OperationTold t → BenchTold (numbered t)
+operation-numbered : (t : Told Reply) → ends.OperationTold First t → BenchTold (numbered t)
 unfolding numbered
-operation-numbered t (ends.replies reply) = tt
-operation-numbered t (ends.unknown values) = refl
+operation-numbered t (ends.replies v reply) = tt
+operation-numbered t (ends.unknown v values) = refl
 operation-numbered t ends.unexpected = refl
-operation-numbered t ends.out-of-range = refl
+operation-numbered t (ends.out-of-range v) = refl
 
 upload-numbered : (t : Told Unit) → UploadTold t → BenchTold (loadTold t)
 unfolding loadTold
@@ -52,11 +54,11 @@ upload-numbered t accepted = tt
 upload-numbered t no-slot = refl
 upload-numbered t slot-full = refl
 
-module _ (sectors : ℕ) (h : Head) (ready : Ready sectors h) where
+module _ (sectors : ℕ) (h : Head) (ready : Ready First sectors h) where
   operated : (k : Kind) (c : CommandBlock) (bytes : List ℕ) → ends.Started (length bytes) k c → BenchTold (operate (fresh k c) bytes h .told)
   unfolding operate
   operated k c bytes started =
-      operation-numbered _ (told.operation-told (h .device) (h .flash) bytes (length (h .store)) sectors (ready .stands) k c (ready .sized) started)
+      operation-numbered _ (told.first-operation-told (h .device) (h .flash) bytes (length (h .store)) sectors (ready .stands) k c (ready .sized) started)
 
   loaded : (area : ℕ) (checked : Bool) (image : List ℕ) → BenchTold (load area checked image h .told)
   unfolding loadOf

@@ -23,7 +23,11 @@ use Rattle.mock_table.specs.declared.session.CommandState.the-variants.{None, I
 use Rattle.mock_table.specs.declared.session.LastReset.{LastReset}
 use Rattle.mock_table.specs.declared.outcome.Effect.{Effect}
 use Rattle.mock_table.specs.declared.outcome.Effect.the-variants.{Nothing}
-use Rattle.mock_effects.specs.Effects.{flashAfter}
+use Rattle.mock_effects.specs.Effects.{flashAfter, pendingAfter}
+use Rattle.mock_effects.specs.Steps.{pend, pended}
+use Rattle.protocol_codes.specs.declared.Status as status
+use Rattle.protocol_codes.specs.declared.Status.the-variants.{SUCCESS, FAILED}
+use Rattle.mock_base.specs.declared.cells.Variety.{Variety}
 use Rattle.mock.specs.declared.device.MockState.{MockState}
 use Rattle.mock.specs.Device.{Call, sessionOf, withSession, writeBulk}
 use Rattle.mock_effects.proofs.Frames.{write-long}
@@ -32,7 +36,8 @@ use Rattle.run_turn.specs.Turn.{UsbState, usbState, onward, wrote, transfers, u
 use Rattle.run_operation.specs.Run.{sectorData, wholeBudget}
 use Rattle.run_operation.proofs.Checks.{unrefused}
 use Rattle.theorems.specs.Standing.{Standing}
-use Rattle.theorems.proofs.CallsByTurn.{asCall, writes-as}
+use Rattle.theorems.specs.Told.{byStatus}
+use Rattle.theorems.proofs.CallsByTurn.{asCall, applied, writes-as}
 use Rattle.theorems.proofs.FromStatus.{answered}
 use Rattle.theorems.specs.Runs.{operationRun}
 use Rattle.protocol.specs.CommandBytes.{BlockFits}
@@ -44,20 +49,24 @@ awaiting k c device flash bytes = usbState (commanded (fresh k c)) (withSession 
 -- a flash that a write leaves is as long as it was
 pub long-left : (device : MockState) (flash lent : List ℕ) (t : Turn) (leaves : List ℕ) → writeBulk device flash lent ≡ asCall device t leaves → length leaves ≡ length flash
 unfolding writeBulk
-long-left device flash lent t leaves e = ap (λ (c : Call). length (c .leaves)) (sym e) ∙ write-long (sessionOf device) flash lent
+long-left device flash lent t leaves e =
+    ap (λ (c : Call). length (c .leaves)) (sym e) ∙ write-long (device .variety) (device .config .«block_size_sectors») (sessionOf device) flash lent
 
-module _ (k : Kind) (c : CommandBlock) (device : MockState) (flash bytes : List ℕ) (store sectors : ℕ) (stands : Standing device flash store sectors)
+module _ (k : Kind) (c : CommandBlock) (v : Variety) (device : MockState) (flash bytes : List ℕ) (store sectors : ℕ) (stands : Standing v device flash store sectors)
     (fits : BlockFits c) (enough : sectorData k (c .«transfer_length») ≤ length bytes) where
+  abbrev block : ℕ
+  block = device .config .«block_size_sectors»
+
   -- the state once the command is out, the device's turn being t
   abbrev commanded-by : Turn → UsbState
-  commanded-by t = usbState (commanded (fresh k c)) (withSession device (t .next)) (flashAfter (t .effect) (commandOut (fresh k c)) flash) bytes
+  commanded-by t = usbState (commanded (fresh k c)) (withSession device (applied t (commandOut (fresh k c)) flash .next)) (flashAfter (t .effect) (commandOut (fresh k c)) flash) bytes
 
-  module _ (t : Turn) (first : startTurn (given c) (device .«last_reset») sectors ≡ t) where
-    taken : writeBulk device flash (commandOut (fresh k c)) ≡ asCall device t (flashAfter (t .effect) (commandOut (fresh k c)) flash)
+  module _ (t : Turn) (first : startTurn (device .variety) block (given c) (device .«last_reset») sectors ≡ t) where
+    taken : writeBulk device flash (commandOut (fresh k c)) ≡ asCall device (applied t (commandOut (fresh k c)) flash) (flashAfter (t .effect) (commandOut (fresh k c)) flash)
     unfolding writeRow
     taken =
         writes-as device flash (commandOut (fresh k c)) sectors None t (stands .legal) (stands .none)
-        (ap (λ (x : Told CommandBlock). startTurn x (device .«last_reset») sectors) (reads-back c (replicate 7 0) fits (omega arith)) ∙ first)
+        (ap (λ (x : Told CommandBlock). startTurn (device .variety) block x (device .«last_reset») sectors) (reads-back c (replicate 7 0) fits (omega arith)) ∙ first)
 
     begun : operationRun k c device flash bytes store ≡ follow (onward (t .told) (commanded-by t)) (λ next. runs usbTurn 3 next)
     unfolding runs usbTurn stepOf commandStep orRefuse transfers
@@ -71,20 +80,23 @@ module _ (k : Kind) (c : CommandBlock) (device : MockState) (flash bytes : List 
     refused-at-once number values e =
         ap (λ (r : Ran Reply UsbState). r .end) begun ∙ ap (λ (x : Told Unit). follow (onward x (commanded-by t)) (λ next. runs usbTurn 3 next) .end) e
 
-  -- a command with no data that is done at once
-  pub done-at-once : (reset : LastReset) (effect : Effect) → c .«transfer_length» ≡ 0
-      → startTurn (given c) (device .«last_reset») sectors ≡ done (Status c) reset effect
-      → operationRun k c device flash bytes store .end ≡ tells (replyOf k (c .«transfer_length») 0 (replicate 16 0))
-  unfolding follow onward done afterCommand
-  done-at-once reset effect empty first =
-      let t = done (Status c) reset effect in
+  -- a command with no data that is done at once, and whose effect does not fail
+  pub done-at-once : (pending : status.Status) (reset : LastReset) (effect : Effect) → c .«transfer_length» ≡ 0
+      → startTurn (device .variety) block (given c) (device .«last_reset») sectors ≡ done (Status c pending) reset effect
+      → pendingAfter effect (commandOut (fresh k c)) flash ≡ SUCCESS
+      → operationRun k c device flash bytes store .end ≡ tells (byStatus pending (replyOf k (c .«transfer_length») 0 (replicate 16 0)))
+  unfolding follow onward done afterCommand pend
+  done-at-once pending reset effect empty first taken-all =
+      let t = done (Status c pending) reset effect in
+      let waits : pend (pendingAfter effect (commandOut (fresh k c)) flash) (Status c pending) ≡ Status c pending =
+      ap (λ (p : status.Status). pend p (Status c pending)) taken-all in
       let here : afterCommand (c .«transfer_length») ≡ operation.CommandStatus = rw (eq-eqb (c .«transfer_length») 0 empty) in
       ap (λ (r : Ran Reply UsbState). r .end) (begun t first)
-      ∙ answered (commanded-by t) c sectors (ap flashSectors (long-left device flash (commandOut (fresh k c)) t (flashAfter effect (commandOut (fresh k c)) flash) (taken t first)) ∙ stands .legal)
-      here refl refl (fits .tag) 1
+      ∙ answered (commanded-by t) c pending sectors (ap flashSectors (long-left device flash (commandOut (fresh k c)) (applied t (commandOut (fresh k c)) flash) (flashAfter effect (commandOut (fresh k c)) flash) (taken t first)) ∙ stands .legal)
+      here waits refl (fits .tag) 1
 
   -- one with data is awaited
   pub awaits : (c .«transfer_length» ≡ 0 → ⊥) → operationRun k c device flash bytes store .end ≡ runs usbTurn 3 (awaiting k c device flash bytes) .end
-  unfolding follow onward done startTurn flashAfter
+  unfolding follow onward done startTurn flashAfter pendingAfter pend
   awaits some =
       ap (λ (r : Ran Reply UsbState). r .end) (begun (done (IO c) (device .«last_reset») Nothing) (rw (ne-eqb (c .«transfer_length») 0 some)))

@@ -1,12 +1,14 @@
--- An operation at its status, at a device that awaits it: the status is success with the command's tag, and so the finish gives the reply.
-use Prim.Native.Nat.{ℕ, suc, _<_, _^_}
-use mathlib.Core.Path.{_≡_, refl, ap, _∙_}
+-- An operation at its status, at a device that awaits it: the status has the command's tag, and so the finish gives the reply, or 15 where FAILED is
+-- pending.
+use Prim.Native.Nat.{ℕ, zero, suc, _<_, _^_}
+use mathlib.Core.Path.{_≡_, refl, ap, sym, _∙_}
 use mathlib.Core.List.{List, [], _++_, append-assoc}
 use native.Mathlib.Omega.{arith}
 use lib.ListN.{length, drop, replicate}
 use Rattle.promise.specs.Told.{Told, given, refused, andThen}
 use Rattle.promise.specs.Bytes.{front, highFirst, lowFirst}
-use Rattle.protocol_codes.specs.declared.Status.the-variants.{SUCCESS}
+use Rattle.protocol_codes.specs.declared.Status as status
+use Rattle.protocol_codes.specs.declared.Status.the-variants.{SUCCESS, FAILED}
 use Rattle.promise.specs.Rules.{orRefuse}
 use Rattle.protocol_status.specs.StatusBytes.{statusBytes, readStatus}
 use Rattle.protocol_status.specs.declared.report.CommandStatus.{CommandStatus}
@@ -14,7 +16,7 @@ use Rattle.protocol_status.proofs.Trips.{reads-back}
 use Rattle.protocol.specs.declared.CommandBlock.{CommandBlock}
 use Rattle.operation_finish.specs.Reply.{Reply}
 use Rattle.operation_finish.specs.Finish.{finishes, replyOf}
-use Rattle.operation_finish.proofs.Cases.{finish-reply}
+use Rattle.operation_finish.proofs.Cases.{finish-reply, finish-15}
 use Rattle.operation.specs.declared.steps.Operation.the-variants as operation
 use Rattle.operation.specs.declared.steps.Asked.the-variants as asked
 use Rattle.operation.specs.declared.steps.UsbOperation.{UsbOperation}
@@ -32,8 +34,10 @@ use Rattle.mock_table.specs.declared.outcome.Effect.the-variants as effect
 use Rattle.mock_table.specs.declared.outcome.ReplyKind.the-variants as reply
 use Rattle.mock_effects.specs.Effects.{replyBytes, bufferAfter}
 use Rattle.mock.specs.Device.{Call, withSession, readBulk}
-use Rattle.promise.specs.Run.{ends, goes, tells, follow, runs}
+use Rattle.promise.specs.Run.{ends, goes, End, tells, outOfSteps, follow, runs}
 use Rattle.run_turn.specs.Turn.{UsbState, usbState, bufferFor, landed, gives, received, got, transfers, after, usbTurn}
+use Rattle.operation_finish.specs.declared.Kind.{Kind}
+use Rattle.theorems.specs.Told.{byStatus}
 use Rattle.theorems.proofs.CallsByTurn.{reads-as}
 
 -- the finish is the last turn, whatever it tells
@@ -52,10 +56,22 @@ finish-turn s e =
     ∙ finish-ends (finishes (op .kind) (op .command .tag) (transferLength op) (op .«command_bytes») (op .«data»))
     (usbState (turned op operation.CommandBlock asked.Nothing) (s .device) (s .flash) (s .«data»))
 
-module _ (s : UsbState) (c : CommandBlock) (sectors : ℕ) (legal : flashSectors (length (s .flash)) ≡ given sectors) (here : s .operation .next ≡ operation.CommandStatus)
-    (waits : s .device .«current_command» ≡ Status c) (tag : c .tag ≡ s .operation .command .tag) (fits : c .tag < 256 ^ 4) where
+-- a finish over a status that was read and has the operation's tag
+by-finish : (pending : status.Status) (k : Kind) (tag length : ℕ) (bytes inband : List ℕ) (report : CommandStatus) → readStatus bytes ≡ given report
+    → report .status ≡ pending → report .tag ≡ tag → finishes k tag length bytes inband ≡ byStatus pending (replyOf k length (report .residue) inband)
+unfolding byStatus
+by-finish SUCCESS k tag length bytes inband report read is own = finish-reply k tag length bytes inband report read is own
+by-finish FAILED k tag length bytes inband report read is own = finish-15 k tag length bytes inband report read is
+
+by-pending : (pending : status.Status) (told : Told Reply) (reply : Reply) → tells (byStatus pending told) ≡ tells (given reply) → pending ≡ SUCCESS
+unfolding byStatus
+by-pending SUCCESS told reply e = refl
+by-pending FAILED told reply e = absurd (let z : _≡_ {A = ℕ} 0 1 = cc in omega arith)
+
+module _ (s : UsbState) (c : CommandBlock) (pending : status.Status) (sectors : ℕ) (legal : flashSectors (length (s .flash)) ≡ given sectors) (here : s .operation .next ≡ operation.CommandStatus)
+    (waits : s .device .«current_command» ≡ Status c pending) (tag : c .tag ≡ s .operation .command .tag) (fits : c .tag < 256 ^ 4) where
   abbrev report : CommandStatus
-  report = record { tag = c .tag; residue = 0; status = SUCCESS }
+  report = record { tag = c .tag; residue = 0; status = pending }
 
   -- what the device gives, and the operation that was given it
   abbrev given-bytes : List ℕ
@@ -68,7 +84,7 @@ module _ (s : UsbState) (c : CommandBlock) (sectors : ℕ) (legal : flashSectors
       ≡ record { told = given tt; next = withSession (s .device) (session None (s .device .«last_reset»)); leaves = given-bytes }
   unfolding readRow statusTurn orRefuse replySize done bufferAfter replyBytes
   status-read =
-      reads-as (s .device) (s .flash) (replicate 13 0) sectors (Status c) (done None (s .device .«last_reset») (effect.Reply (reply.Status (c .tag)))) legal waits refl
+      reads-as (s .device) (s .flash) (replicate 13 0) sectors (Status c pending) (done None (s .device .«last_reset») (effect.Reply (reply.Status (c .tag) pending))) legal waits refl
 
   status-given : usbGive asking given-bytes 0 .next ≡ withStatus asking (front given-bytes (s .operation .«command_bytes»))
   unfolding giving.received nothingAsked asksFor owed statusBytes highFirst lowFirst
@@ -83,15 +99,24 @@ module _ (s : UsbState) (c : CommandBlock) (sectors : ℕ) (legal : flashSectors
       ∙ ap (λ (x : Call). got asked.Status now x) status-read
       ∙ ap (λ (x : UsbOperation). goes (usbState x (withSession (s .device) (session None (s .device .«last_reset»))) (s .flash) (s .«data»))) status-given
 
-  -- ANSWERED. Two more turns, and the end is the reply of an operation that moved all of its data
+  -- ANSWERED. Two more turns, and the end is the reply of an operation that moved all of its data, or 15
   pub answered : (budget : ℕ) → runs usbTurn (suc (suc budget)) s .end
-      ≡ tells (replyOf (s .operation .kind) (transferLength (s .operation)) 0 (s .operation .«data»))
+      ≡ tells (byStatus pending (replyOf (s .operation .kind) (transferLength (s .operation)) 0 (s .operation .«data»)))
   unfolding runs follow
   answered budget =
       let op = s .operation in
-      let status = front given-bytes (op .«command_bytes») in
-      let next = usbState (withStatus asking status) (withSession (s .device) (session None (s .device .«last_reset»))) (s .flash) (s .«data») in
+      let got = front given-bytes (op .«command_bytes») in
+      let next = usbState (withStatus asking got) (withSession (s .device) (session None (s .device .«last_reset»))) (s .flash) (s .«data») in
       let behind : List ℕ = drop (length (statusBytes report)) (replicate 13 0) in
       let rest = drop (length given-bytes) (op .«command_bytes») in
       let read = ap readStatus (append-assoc (statusBytes report) behind rest) ∙ reads-back report (behind ++ rest) (record { tag = fits; residue = omega arith }) in
-      rw (status-turn, finish-turn next refl) (ap tells (finish-reply (op .kind) (op .command .tag) (transferLength op) status (op .«data») report read refl tag))
+      rw (status-turn, finish-turn next refl) (ap tells (by-finish pending (op .kind) (op .command .tag) (transferLength op) got (op .«data») report read refl tag))
+
+  -- GIVEN. A run from here that gives a reply met a status of success
+  pub given-success : (budget : ℕ) (reply : Reply) → runs usbTurn budget s .end ≡ tells (given reply) → pending ≡ SUCCESS
+  unfolding runs follow
+  given-success zero reply e = absurd (let z : _≡_ {A = ℕ} 0 1 = cc in omega arith)
+  given-success (suc zero) reply e =
+      let f : _≡_ {A = End Reply} outOfSteps (tells (given reply)) = rw status-turn at e in absurd (let z : _≡_ {A = ℕ} 0 1 = cc in omega arith)
+  given-success (suc (suc budget)) reply e =
+      by-pending pending (replyOf (s .operation .kind) (transferLength (s .operation)) 0 (s .operation .«data»)) reply (sym (answered budget) ∙ e)

@@ -21,18 +21,19 @@ use Rattle.operation_finish.specs.Transfer.{whole}
 use Rattle.operation_finish.specs.Reply.{Reply, moved}
 use Rattle.operation.specs.Record.{fresh}
 use Rattle.mock_base.specs.Flash.{flashRules, flashSectors, fitsIn}
+use Rattle.mock_base.specs.declared.cells.Variety.the-variants.{First}
 use Rattle.mock.specs.Device.{freshState}
 use Rattle.run_operation.specs.Run.{runRules, usbRun}
 use Rattle.ffi.specs.Sectors.{SectorsMeet, countsOf, countsAfter, device, ranTo, carries, oneTag, readSectors, writeSectors}
 use Rattle.theorems.specs.Runs.{operationRun}
 use Rattle.theorems.specs.Standing.{Standing}
-use Rattle.theorems.proofs.OperationEnds.{read-ends, read-none-ends, write-ends, write-none-ends}
+use Rattle.theorems.proofs.OperationEnds.{read-ends, read-none-ends, first-write-ends, write-none-ends}
 
 -- an operation over so many sectors, by what it ends in at the fresh stand-in
 module _ (k : Kind) (command : ℕ → CommandBlock) (first : ℕ) (flash bytes counts : List ℕ)
-    (ends : (sectors n : ℕ) → Standing device flash 0 sectors → 0 < n → n < 256 ^ 2 → n * 512 ≤ length bytes
+    (ends : (sectors n : ℕ) → Standing First device flash 0 sectors → 0 < n → n < 256 ^ 2 → n * 512 ≤ length bytes
     → operationRun k (command n) device flash bytes 0 .end ≡ tells (pick (fitsIn sectors first n) (given (moved (whole (n * 512)))) (refused 57 [])))
-    (none : (sectors : ℕ) → Standing device flash 0 sectors → (code : ℕ) × (operationRun k (command 0) device flash bytes 0 .end ≡ tells (refused 53 (code ∷ [])))) where
+    (none : (sectors : ℕ) → Standing First device flash 0 sectors → (code : ℕ) × (operationRun k (command 0) device flash bytes 0 .end ≡ tells (refused 53 (code ∷ [])))) where
   abbrev all : List ℕ
   all = length bytes ∷ length bytes ∷ []
 
@@ -53,7 +54,7 @@ module _ (k : Kind) (command : ℕ → CommandBlock) (first : ℕ) (flash bytes 
   ended n t e counted = rw e counted
 
   -- lent a flash of whole sectors, at most 65,536 of them
-  standing : (sectors n : ℕ) → Standing device flash 0 sectors → n < 256 ^ 2 → n * 512 ≡ length bytes
+  standing : (sectors n : ℕ) → Standing First device flash 0 sectors → n < 256 ^ 2 → n * 512 ≡ length bytes
       → Counted (endTold (operationRun k (command n) device flash bytes 0 .end))
   standing sectors zero stands few long = let e = none sectors stands in ended zero _ (e .1) (refused-counted 53 _ (λ f. omega arith))
   standing sectors (suc n) stands few long =
@@ -68,7 +69,7 @@ module _ (k : Kind) (command : ℕ → CommandBlock) (first : ℕ) (flash bytes 
       (λ t. ended n (refused 60 (size ∷ [])) (rw t refl) (refused-counted 60 _ (λ f. omega arith)))
       (λ t. on-test (ltb 65536 (size / 512))
       (λ u. ended n (refused 61 []) (rw (t, u) refl) (refused-counted 61 [] (λ f. omega arith)))
-      (λ u. standing (size / 512) n (record { legal = rw (t, u) refl; stored = refl; none = refl }) few long))
+      (λ u. standing (size / 512) n (record { own = refl; legal = rw (t, u) refl; stored = refl; none = refl }) few long))
 
   -- 23 and 24 are no 0
   carried-counted : carries (λ n. fresh k (command n)) (sectorsIn (length bytes)) flash bytes counts .number ≡ 0
@@ -94,11 +95,11 @@ module _ (first : ℕ) (low : first < 256 ^ 4) (flash bytes counts : List ℕ) (
   pub read-0-is-whole : SectorsMeet r flash-now bytes-now counts-now (readSectors first flash bytes counts) → r ≡ 0 → counts-now ≡ length bytes ∷ length bytes ∷ []
   read-0-is-whole =
       counted kind.Read (readLbaCommand oneTag first) first flash bytes counts
-      (λ sectors n stands some few enough. read-ends device flash bytes 0 sectors stands oneTag (omega arith) first n low few some enough)
-      (λ sectors stands. (_, read-none-ends device flash bytes 0 sectors stands oneTag (omega arith) first low)) r flash-now bytes-now counts-now
+      (λ sectors n stands some few enough. read-ends First device flash bytes 0 sectors stands oneTag (omega arith) first n low few some enough)
+      (λ sectors stands. (_, read-none-ends First device flash bytes 0 sectors stands oneTag (omega arith) first low)) r flash-now bytes-now counts-now
 
   pub write-0-is-whole : SectorsMeet r flash-now bytes-now counts-now (writeSectors first flash bytes counts) → r ≡ 0 → counts-now ≡ length bytes ∷ length bytes ∷ []
   write-0-is-whole =
       counted kind.Write (writeLbaCommand oneTag first) first flash bytes counts
-      (λ sectors n stands some few enough. write-ends device flash bytes 0 sectors stands oneTag (omega arith) first n low few some enough)
-      (λ sectors stands. (_, write-none-ends device flash bytes 0 sectors stands oneTag (omega arith) first low)) r flash-now bytes-now counts-now
+      (λ sectors n stands some few enough. first-write-ends First device flash bytes 0 sectors stands oneTag (omega arith) first n low few some enough refl)
+      (λ sectors stands. (_, write-none-ends First device flash bytes 0 sectors stands oneTag (omega arith) first low)) r flash-now bytes-now counts-now

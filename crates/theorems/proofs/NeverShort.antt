@@ -48,7 +48,7 @@ use Rattle.mock_table.specs.Turn.{refuses, done}
 use Rattle.mock_table.specs.Turn as table
 use Rattle.mock_table.specs.Table.{readTurn}
 use Rattle.mock_effects.specs.Effects.{replyBytes, bufferAfter}
-use Rattle.mock_effects.specs.Steps.{readStepOf, readStep}
+use Rattle.mock_effects.specs.Steps.{readStepOf, readStepBy}
 use Rattle.mock.specs.declared.device.MockState.{MockState}
 use Rattle.mock.specs.declared.device.MockStep.{MockStep}
 use Rattle.mock.specs.Device.{sessionOf, readBulk, MockMeets}
@@ -110,35 +110,35 @@ by-residue bytes none report =
     (λ other e. let z : _≡_ {A = ℕ} 0 1 = cc in absurd (omega arith))
     (λ own e. status-residue bytes (statusOf (getD bytes 12 0)) report e ∙ none))
 
-abbrev standIns : ℕ → List ℕ
-standIns tag = statusBytes (record { tag = tag; residue = 0; status = SUCCESS })
+abbrev standIns : ℕ → Status → List ℕ
+standIns tag pending = statusBytes (record { tag = tag; residue = 0; status = pending })
 
-status-left : (tag : ℕ) (rest : List ℕ) → NothingLeft (standIns tag ++ rest)
+status-left : (tag : ℕ) (pending : Status) (rest : List ℕ) → NothingLeft (standIns tag pending ++ rest)
 unfolding statusBytes highFirst lowFirst reportOf fromLow
-status-left tag rest = by-residue (standIns tag ++ rest) refl
+status-left tag pending rest = by-residue (standIns tag pending ++ rest) refl
 
 -- a read of 13 bytes that a stand-in answers is its status, at every record, lent any flash and any buffer
 module _ (device : MockState) (flash buffer : List ℕ) where
   abbrev Shown : List ℕ → Type 0
-  Shown leaves = (tag : ℕ) × (leaves ≡ front (standIns tag) buffer)
+  Shown leaves = (tag : ℕ) × (pending : Status) × (leaves ≡ front (standIns tag pending) buffer)
 
-  by-row : (t : table.Turn) → StatusRead (device .«last_reset») t → t .told ≡ given tt → Shown (bufferAfter (device .config) (t .effect) flash buffer)
+  by-row : (t : table.Turn) → StatusRead (device .variety) (device .«last_reset») t → t .told ≡ given tt → Shown (bufferAfter (device .config) (t .effect) flash buffer)
   unfolding refuses done bufferAfter replyBytes
   by-row t (inl refusal) e =
       let f : refused (refusal .0) (refusal .1) ≡ given tt = ap (λ (x : table.Turn). x .told) (sym (refusal .2)) ∙ e in
       let z : _≡_ {A = ℕ} 0 1 = cc in absurd (omega arith)
-  by-row t (inr status) e = (status .0, ap (λ (x : table.Turn). bufferAfter (device .config) (x .effect) flash buffer) (status .1))
+  by-row t (inr status) e = (status .0, status .1, ap (λ (x : table.Turn). bufferAfter (device .config) (x .effect) flash buffer) (status .2))
 
   module _ (long : length buffer ≡ 13) where
-    by-flash : (t : Told ℕ) → readStepOf t (sessionOf device) (device .config) flash buffer .told ≡ given tt
-        → Shown (readStepOf t (sessionOf device) (device .config) flash buffer .leaves)
+    by-flash : (t : Told ℕ) → readStepOf t (device .variety) (sessionOf device) (device .config) flash buffer .told ≡ given tt
+        → Shown (readStepOf t (device .variety) (sessionOf device) (device .config) flash buffer .leaves)
     unfolding readStepOf
     by-flash (given sectors) e =
-        by-row _ (subst (λ (n : ℕ). StatusRead (device .«last_reset») (readTurn (sessionOf device) sectors n)) (sym long) (row-read (device .«last_reset») (device .«current_command») sectors)) e
+        by-row _ (subst (λ (n : ℕ). StatusRead (device .variety) (device .«last_reset») (readTurn (device .variety) (sessionOf device) sectors n)) (sym long) (row-read (device .variety) (device .«last_reset») (device .«current_command») sectors)) e
     by-flash (refused n values) e = let z : _≡_ {A = ℕ} 0 1 = cc in absurd (omega arith)
 
     status-shown : readBulk device flash buffer .told ≡ given tt → Shown (readBulk device flash buffer .leaves)
-    unfolding readBulk readStep
+    unfolding readBulk readStepBy
     status-shown e = by-flash (flashSectors (length flash)) e
 
     -- RESIDUE 0. For any caller of `read_bulk`: what a stand-in leaves in 13 bytes is no status that leaves something over
@@ -146,10 +146,10 @@ module _ (device : MockState) (flash buffer : List ℕ) where
         → NothingLeft after
     stand-in-leaves-nothing r after m e =
         let shown = status-shown e in
-        subst NothingLeft (sym (m .leaves ∙ shown .1)) (status-left (shown .0) (drop (length (standIns (shown .0))) buffer))
+        subst NothingLeft (sym (m .leaves ∙ shown .2)) (status-left (shown .0) (shown .1) (drop (length (standIns (shown .0) (shown .1))) buffer))
 
-abbrev given-bytes : ℕ → List ℕ
-given-bytes tag = front (standIns tag) (replicate 13 0)
+abbrev given-bytes : ℕ → Status → List ℕ
+given-bytes tag pending = front (standIns tag pending) (replicate 13 0)
 
 -- what a giving leaves of an operation's bytes: they are as they were unless a status was asked for
 module _ (op : UsbOperation) (bytes : List ℕ) (lent : ℕ) where
@@ -194,15 +194,15 @@ gives-left asked.Sectors s bytes other left = subst NothingLeft (sym (give-keeps
 gives-left asked.Status s bytes other left = subst NothingLeft (sym (give-keeps-bytes (s .operation) bytes 0 other)) left
 
 -- what is given for a status
-status-given : (op : UsbOperation) (tag : ℕ) (bytes : List ℕ) → bytes ≡ given-bytes tag → op .asked ≡ asked.Status → NothingLeft (op .«command_bytes»)
+status-given : (op : UsbOperation) (tag : ℕ) (pending : Status) (bytes : List ℕ) → bytes ≡ given-bytes tag pending → op .asked ≡ asked.Status → NothingLeft (op .«command_bytes»)
     → NothingLeft (usbGive op bytes 0 .next .«command_bytes»)
 unfolding giveOf taking.received
-status-given op tag bytes e status left =
+status-given op tag pending bytes e status left =
     either-way (λ (g : Give). NothingLeft (g .next .«command_bytes»)) (keeps op) _ (taking.received (op .asked) op bytes) (λ n values. left)
     (λ met.
-    let behind : List ℕ = drop (length (standIns tag)) (replicate 13 0) in
-    let rest = drop (length (given-bytes tag)) (op .«command_bytes») in
-    rw (status, e) (subst NothingLeft (sym (append-assoc (standIns tag) behind rest)) (status-left tag (behind ++ rest))))
+    let behind : List ℕ = drop (length (standIns tag pending)) (replicate 13 0) in
+    let rest = drop (length (given-bytes tag pending)) (op .«command_bytes») in
+    rw (status, e) (subst NothingLeft (sym (append-assoc (standIns tag pending) behind rest)) (status-left tag pending (behind ++ rest))))
 
 module _ (s : UsbState) (left : Left s) where
   -- a step that leaves the operation's bytes as they are
@@ -235,7 +235,7 @@ module _ (s : UsbState) (left : Left s) where
   step-turns operation.IO = io-turns (ioOf (s .operation .kind))
   step-turns operation.CommandStatus =
       received-turns _ asked.Status _ _ left
-      (λ e. let shown = status-shown (s .device) (s .flash) (replicate 13 0) refl e in status-given (turned (s .operation) operation.Finish asked.Status) (shown .0) _ (shown .1) refl left)
+      (λ e. let shown = status-shown (s .device) (s .flash) (replicate 13 0) refl e in status-given (turned (s .operation) operation.Finish asked.Status) (shown .0) (shown .1) _ (shown .2) refl left)
   step-turns operation.Finish =
       let op = s .operation in
       finish-turns (finishes (op .kind) (op .command .tag) (transferLength op) (op .«command_bytes») (op .«data»))

@@ -115,7 +115,7 @@ module _ (device : MockState) (flash sectors : ℕ) (legal : flashSectors flash 
         onward-turns (w .told) (usbState op (w .next) (w .leaves) (s .«data»))
         (record {
           same = ap (λ (d : MockState). withSession d (sessionOf (w .next))) (g .same);
-          long = write-long (sessionOf (s .device)) (s .flash) bytes ∙ g .long;
+          long = write-long (s .device .variety) (s .device .config .«block_size_sectors») (sessionOf (s .device)) (s .flash) bytes ∙ g .long;
           enough = enough;
           ended = λ e. absurd (far e);
         })

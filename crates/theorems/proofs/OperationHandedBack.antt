@@ -10,6 +10,7 @@ use Rattle.promise.specs.Run.{Turned, ends, goes, Ran, follow, runs}
 use Rattle.promise.proofs.Outcome.{either-way}
 use Rattle.operation_finish.specs.Reply.{Reply}
 use Rattle.operation_finish.specs.declared.Beside.{Beside}
+use Rattle.mock_base.specs.declared.cells.Variety.{Variety}
 use Rattle.mock_base.specs.declared.config.MockDeviceConfig.{MockDeviceConfig}
 use Rattle.mock.specs.declared.device.MockState.{MockState}
 use Rattle.mock.specs.Device.{readBulk}
@@ -107,19 +108,19 @@ module _ (start : UsbOperation) where
       (λ number values. made) (λ met. runs-stay budget s made))
 
 -- An operation and a device that calls from fresh starts made: of what is lent no more is asked than its type gives, and an opcode is a byte
-module _ (config : MockDeviceConfig) (n : ℕ) (start op : UsbOperation) (device : MockState) (made : Made start op) (byte : op .command .«cd_opcode» < 256)
-    (there : mock.Made config n device) where
+module _ (v : Variety) (config : MockDeviceConfig) (n : ℕ) (start op : UsbOperation) (device : MockState) (made : Made start op) (byte : op .command .«cd_opcode» < 256)
+    (there : mock.Made v config n device) where
   pub turn-hands-both-back-made : (r : UsbTurned) (flash source room left now : List ℕ) → (isWrite (op .kind) ≡ true → AreBytes source)
       → LentMeets r (op .kind) source room left now (usbTurn (usbState op device flash (lentTo (op .kind) source room)))
-      → Made start (r .operation) × mock.Made config n (r .device)
+      → Made start (r .operation) × mock.Made v config n (r .device)
   turn-hands-both-back-made r flash source room left now lent m = (
     turn-hands-back-made start r op device flash source room left now made m,
-    turn-makes config n r op device flash source room left now there (made-goes-out-as-bytes start op made byte) lent m,
+    turn-makes v config n r op device flash source room left now there (made-goes-out-as-bytes start op made byte) lent m,
   )
 
   pub run-hands-both-back-made : (r : UsbRun) (flash bytes left now : List ℕ) (store budget : ℕ) → (isWrite (op .kind) ≡ true → AreBytes bytes)
-      → RunMeets r left now (usbRun (usbState op device flash bytes) store budget) → Made start (r .operation) × mock.Made config n (r .device)
+      → RunMeets r left now (usbRun (usbState op device flash bytes) store budget) → Made start (r .operation) × mock.Made v config n (r .device)
   run-hands-both-back-made r flash bytes left now store budget lent m = (
     run-hands-back-made start r op device flash bytes left now store budget made m,
-    run-makes config n r op device flash bytes left now store budget there (made-goes-out-as-bytes start op made byte) lent m,
+    run-makes v config n r op device flash bytes left now store budget there (made-goes-out-as-bytes start op made byte) lent m,
   )

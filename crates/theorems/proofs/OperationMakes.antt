@@ -12,6 +12,7 @@ use Rattle.promise.specs.Run.{Turned, ends, goes, Ran, follow, runs}
 use Rattle.promise.proofs.Outcome.{either-way}
 use Rattle.protocol.specs.CommandBytes.{commandBytes}
 use Rattle.protocol.specs.declared.CommandBlock.{CommandBlock}
+use Rattle.mock_base.specs.declared.cells.Variety.{Variety}
 use Rattle.mock_base.specs.declared.config.MockDeviceConfig.{MockDeviceConfig}
 use Rattle.mock.specs.declared.device.MockState.{MockState}
 use Rattle.mock.specs.Device.{writeBulk, readBulk}
@@ -42,22 +43,22 @@ use Rattle.run_operation.specs.Answers.{RunMeets}
 use Rattle.theorems.proofs.CommandsAreBytes.{are-take}
 
 -- an operation at such a device: its command goes out as bytes, and so does the data of a write
-record Fit (config : MockDeviceConfig) (n : ℕ) (s : UsbState) : Type 0 where
-  made : Made config n (s .device)
+record Fit (v : Variety) (config : MockDeviceConfig) (n : ℕ) (s : UsbState) : Type 0 where
+  made : Made v config n (s .device)
   command : AreBytes (commandOut (s .operation))
   lent : isWrite (s .operation .kind) ≡ true → AreBytes (s .«data»)
 
-module _ (config : MockDeviceConfig) (n : ℕ) where
+module _ (v : Variety) (config : MockDeviceConfig) (n : ℕ) where
   abbrev Turns : Turned Reply UsbState → Type 0
-  Turns (ends told s) = Fit config n s
-  Turns (goes s) = Fit config n s
+  Turns (ends told s) = Fit v config n s
+  Turns (goes s) = Fit v config n s
 
-  onward-fit : (told : Told Unit) (s : UsbState) → Fit config n s → Turns (onward told s)
+  onward-fit : (told : Told Unit) (s : UsbState) → Fit v config n s → Turns (onward told s)
   unfolding onward
   onward-fit (given done) s f = f
   onward-fit (refused number values) s f = f
 
-  giving-fit : (s : UsbState) (bytes : List ℕ) (lent : ℕ) → Fit config n s → Fit config n (giving s bytes lent)
+  giving-fit : (s : UsbState) (bytes : List ℕ) (lent : ℕ) → Fit v config n s → Fit v config n (giving s bytes lent)
   giving-fit s bytes lent f =
       let k = give-keeps (s .operation) bytes lent in
       record {
@@ -66,19 +67,19 @@ module _ (config : MockDeviceConfig) (n : ℕ) where
         lent = λ w. f .lent (ap isWrite (sym (k .kind)) ∙ w);
       }
 
-  gives-fit : (a : Asked) (s : UsbState) (bytes : List ℕ) → Fit config n s → Fit config n (gives a s bytes)
+  gives-fit : (a : Asked) (s : UsbState) (bytes : List ℕ) → Fit v config n s → Fit v config n (gives a s bytes)
   unfolding gives
   gives-fit asked.Nothing s bytes f = giving-fit s bytes 0 f
   gives-fit asked.Inband s bytes f = giving-fit s bytes 0 f
   gives-fit asked.Sectors s bytes f = giving-fit s [] (length (s .«data»)) f
   gives-fit asked.Status s bytes f = giving-fit s bytes 0 f
 
-  received-fit : (told : Told Unit) (a : Asked) (s : UsbState) (bytes : List ℕ) → Fit config n s → Turns (received told a s bytes)
+  received-fit : (told : Told Unit) (a : Asked) (s : UsbState) (bytes : List ℕ) → Fit v config n s → Turns (received told a s bytes)
   unfolding received
   received-fit (given done) a s bytes f = gives-fit a s bytes f
   received-fit (refused number values) a s bytes f = f
 
-  write-fit : (s : UsbState) (bytes : List ℕ) → Fit config n s → AreBytes bytes → Turns (wrote s (writeBulk (s .device) (s .flash) bytes))
+  write-fit : (s : UsbState) (bytes : List ℕ) → Fit v config n s → AreBytes bytes → Turns (wrote s (writeBulk (s .device) (s .flash) bytes))
   write-fit s bytes f are =
       let w = writeBulk (s .device) (s .flash) bytes in
       onward-fit (w .told) (usbState (s .operation) (w .next) (w .leaves) (s .«data»))
@@ -93,7 +94,7 @@ module _ (config : MockDeviceConfig) (n : ℕ) where
   landed-fit asked.Sectors k bytes lent far are w = let z : true ≡ false = sym w ∙ far refl in absurd (let x : _≡_ {A = ℕ} 0 1 = cc in omega arith)
   landed-fit asked.Status k bytes lent far are w = are w
 
-  read-fit : (s : UsbState) (a : Asked) (size : ℕ) → Fit config n s → (a ≡ asked.Sectors → isWrite (s .operation .kind) ≡ false)
+  read-fit : (s : UsbState) (a : Asked) (size : ℕ) → Fit v config n s → (a ≡ asked.Sectors → isWrite (s .operation .kind) ≡ false)
       → Turns (got a s (readBulk (s .device) (s .flash) (bufferFor a size s)))
   read-fit s a size f far =
       let r = readBulk (s .device) (s .flash) (bufferFor a size s) in
@@ -110,9 +111,9 @@ module _ (config : MockDeviceConfig) (n : ℕ) where
   status-not : asked.Status ≡ asked.Sectors → ⊥
   status-not e = let z : _≡_ {A = ℕ} 0 1 = cc in omega arith
 
-  module _ (s : UsbState) (f : Fit config n s) where
+  module _ (s : UsbState) (f : Fit v config n s) where
     -- the operation as a step leaves it
-    stepped-fit : (next : Operation) (a : Asked) → Fit config n (usbState (turned (s .operation) next a) (s .device) (s .flash) (s .«data»))
+    stepped-fit : (next : Operation) (a : Asked) → Fit v config n (usbState (turned (s .operation) next a) (s .device) (s .flash) (s .«data»))
     stepped-fit next a = record { made = f .made; command = f .command; lent = f .lent }
 
     inband-fit : Turns (after (ioStep io.Inband (s .operation) (length (s .«data»))) s)
@@ -169,48 +170,48 @@ module _ (config : MockDeviceConfig) (n : ℕ) where
     unfolding usbTurn
     turn-fit = step-fit (s .operation .next)
 
-  follow-fit : (t : Turned Reply UsbState) (rest : UsbState → Ran Reply UsbState) → Turns t → ((next : UsbState) → Fit config n next → Fit config n (rest next .state))
-      → Fit config n (follow t rest .state)
+  follow-fit : (t : Turned Reply UsbState) (rest : UsbState → Ran Reply UsbState) → Turns t → ((next : UsbState) → Fit v config n next → Fit v config n (rest next .state))
+      → Fit v config n (follow t rest .state)
   unfolding follow
   follow-fit (ends told s) rest f on = f
   follow-fit (goes s) rest f on = on s f
 
-  runs-fit : (budget : ℕ) (s : UsbState) → Fit config n s → Fit config n (runs usbTurn budget s .state)
+  runs-fit : (budget : ℕ) (s : UsbState) → Fit v config n s → Fit v config n (runs usbTurn budget s .state)
   unfolding runs
   runs-fit zero s f = f
   runs-fit (suc budget) s f = follow-fit (usbTurn s) (λ next. runs usbTurn budget next) (turn-fit s f) (λ next g. runs-fit budget next g)
 
-  turned-fit : (t : Turn) (b : Beside) (s : UsbState) → Turns (turnTold t b s) → Fit config n s
+  turned-fit : (t : Turn) (b : Beside) (s : UsbState) → Turns (turnTold t b s) → Fit v config n s
   unfolding turnTold
   turned-fit turn.Goes b s f = f
   turned-fit (turn.Ends stop) b s f = f
 
   -- over the contract of `take_turn`. What goes out is bytes, as it is for whoever has a record of these types
-  pub turn-makes : (r : UsbTurned) (op : UsbOperation) (device : MockState) (flash source room left now : List ℕ) → Made config n device
+  pub turn-makes : (r : UsbTurned) (op : UsbOperation) (device : MockState) (flash source room left now : List ℕ) → Made v config n device
       → AreBytes (commandOut op) → (isWrite (op .kind) ≡ true → AreBytes source)
-      → LentMeets r (op .kind) source room left now (usbTurn (usbState op device flash (lentTo (op .kind) source room))) → Made config n (r .device)
+      → LentMeets r (op .kind) source room left now (usbTurn (usbState op device flash (lentTo (op .kind) source room))) → Made v config n (r .device)
   turn-makes r op device flash source room left now made command lent m =
       let s = usbState op device flash (lentTo (op .kind) source room) in
-      let f : Fit config n s =
+      let f : Fit v config n s =
       record { made = made; command = command; lent = λ w. subst (λ (b : Bool). AreBytes (pick b source room)) (sym w) (lent w) } in
       turned-fit (r .turn) (r .beside) (usbState (r .operation) (r .device) left (lentTo (op .kind) source now))
       (subst Turns (sym (m .turns .tells)) (turn-fit s f)) .made
 
   -- what the definition of a run leaves
-  pub run-leaves-made : (op : UsbOperation) (device : MockState) (flash bytes : List ℕ) (store budget : ℕ) → Made config n device
+  pub run-leaves-made : (op : UsbOperation) (device : MockState) (flash bytes : List ℕ) (store budget : ℕ) → Made v config n device
       → AreBytes (commandOut op) → (isWrite (op .kind) ≡ true → AreBytes bytes)
-      → Made config n (usbRun (usbState op device flash bytes) store budget .state .device)
+      → Made v config n (usbRun (usbState op device flash bytes) store budget .state .device)
   unfolding usbRun
   run-leaves-made op device flash bytes store budget made command lent =
       let s = usbState op device flash bytes in
-      let f : Fit config n s = record { made = made; command = command; lent = lent } in
-      either-way (λ (w : Ran Reply UsbState). Made config n (w .state .device)) (unstarted s) (runRules s store) (runs usbTurn budget s)
+      let f : Fit v config n s = record { made = made; command = command; lent = lent } in
+      either-way (λ (w : Ran Reply UsbState). Made v config n (w .state .device)) (unstarted s) (runRules s store) (runs usbTurn budget s)
       (λ number values. made) (λ met. runs-fit budget s f .made)
 
   -- over the contract of `run`, and so of `run_whole`; with the data that `run_write` is lent, of that and of `run_whole_write`
-  pub run-makes : (r : UsbRun) (op : UsbOperation) (device : MockState) (flash bytes left now : List ℕ) (store budget : ℕ) → Made config n device
+  pub run-makes : (r : UsbRun) (op : UsbOperation) (device : MockState) (flash bytes left now : List ℕ) (store budget : ℕ) → Made v config n device
       → AreBytes (commandOut op) → (isWrite (op .kind) ≡ true → AreBytes bytes) → RunMeets r left now (usbRun (usbState op device flash bytes) store budget)
-      → Made config n (r .device)
+      → Made v config n (r .device)
   run-makes r op device flash bytes left now store budget made command lent m =
-      subst (λ (d : MockState). Made config n d) (sym (ap (λ (t : UsbState). t .device) (m .leaves)))
+      subst (λ (d : MockState). Made v config n d) (sym (ap (λ (t : UsbState). t .device) (m .leaves)))
       (run-leaves-made op device flash bytes store budget made command lent)

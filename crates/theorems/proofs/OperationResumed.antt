@@ -121,7 +121,7 @@ module _ (s : UsbState) where
       let w = writeBulk (t .device) (t .flash) bytes in
       onward-turns (w .told) (usbState (t .operation) (w .next) (w .leaves) (t .«data»))
       (record {
-        long = write-long (sessionOf (t .device)) (t .flash) bytes ∙ k .long;
+        long = write-long (t .device .variety) (t .device .config .«block_size_sectors») (sessionOf (t .device)) (t .flash) bytes ∙ k .long;
         stored = k .stored;
         kind = k .kind;
         command = k .command;

@@ -1,5 +1,5 @@
 -- What an unrefused run leaves at the stand-in: a write puts its data over its sectors, a read gives the flash's bytes.
-use Prim.Native.Nat.{ℕ, zero, suc, _*_, _≤_}
+use Prim.Native.Nat.{ℕ, zero, suc, _*_, _/_, _^_, _≤_, _<_}
 use mathlib.Core.Path.{_≡_, refl, ap, _∙_}
 use mathlib.Core.Bool.{Bool, true, false}
 use mathlib.Core.List.{List, []}
@@ -8,7 +8,7 @@ use borrow.Author.Tests.{ne-eqb, ltb-false}
 use lib.Dec.{eqb}
 use lib.ListN.{length, take, replicate}
 use Rattle.promise.specs.Told.{Told, given, refused, andThen}
-use Rattle.promise.specs.Rules.{pick}
+use Rattle.promise.specs.Rules.{pick, orRefuse}
 use Rattle.promise.specs.Bytes.{field, front}
 use Rattle.promise.specs.Over.{over}
 use Rattle.promise.proofs.Outcome.{Met, either-way}
@@ -35,15 +35,20 @@ use Rattle.mock_table.specs.Turn.{Turn, done}
 use Rattle.mock_table.specs.declared.outcome.Effect.the-variants.{Nothing}
 use Rattle.mock_table.specs.Table.{startTurn, writeRow, writeTurn}
 use Rattle.mock_table.specs.declared.session.CommandState.the-variants as state
-use Rattle.mock_effects.specs.Effects.{flashAfter}
-use Rattle.mock_effects.specs.Steps.{writeStepOf, writeStep}
+use Rattle.mock_effects.specs.Effects.{flashAfter, pendingAfter}
+use Rattle.mock_effects.specs.Steps.{pend, pended, writeStepOf, writeStepBy}
 use Rattle.mock.specs.Device.{Call, writeBulk, readBulk, sessionOf}
 use Rattle.mock.specs.declared.device.MockState.{MockState}
-use Rattle.mock_effects.proofs.ReadBack.{stored, supplied}
+use Rattle.mock_effects.proofs.Frames.{write-long}
+use Rattle.mock_effects.proofs.ReadBack.{stored, as-asked, supplied}
+use Rattle.mock_effects.proofs.ReadBack as back
+use Rattle.mock_base.specs.declared.cells.Variety.{Variety}
+
 use Rattle.promise.specs.Run.{Turned, ends, goes, End, tells, outOfSteps, Ran, follow, runs}
 use Rattle.run_turn.specs.Turn.{UsbState, usbState, onward, bufferFor, landed, gives, received, transfers, after, usbTurn}
 use Rattle.run_operation.specs.Run.{sectorData, runRules, unstarted, usbRun}
 use Rattle.theorems.proofs.OperationSteps.{Uses, turn-uses}
+use Rattle.theorems.proofs.FromStatus.{given-success}
 use Rattle.theorems.specs.Standing.{AtCommand}
 
 -- a turn that leaves flash and data so
@@ -127,14 +132,14 @@ received-gone (suc budget) s next bytes reply (given done) t e = gone budget ref
 received-gone (suc budget) s next bytes reply (refused number values) t e = not-told number values reply (rw t at e)
 
 -- the command is taken as the block that it is
-taken-of : (t : Told ℕ) (d : MockState) (flash bytes : List ℕ) (c : CommandBlock) → d .«current_command» ≡ state.None → readCommand bytes ≡ given c
-    → (c .«transfer_length» ≡ 0 → ⊥) → writeStepOf t (sessionOf d) flash bytes .told ≡ given tt
-    → (writeStepOf t (sessionOf d) flash bytes .next .«current_command» ≡ state.IO c) × (writeStepOf t (sessionOf d) flash bytes .leaves ≡ flash)
-unfolding writeStepOf writeRow startTurn done flashAfter
-taken-of (refused number values) d flash bytes c none read long h = absurd (let z : _≡_ {A = ℕ} 0 1 = cc in omega arith)
-taken-of (given sectors) d flash bytes c none read long h =
-    let turn : writeTurn (sessionOf d) sectors bytes ≡ done (state.IO c) (d .«last_reset») Nothing = rw (none, read, ne-eqb (c .«transfer_length») 0 long) in
-    (ap (λ (x : Turn). x .next .«current_command») turn, ap (λ (x : Turn). flashAfter (x .effect) bytes flash) turn)
+taken-of : (t : Told ℕ) (v : Variety) (block : ℕ) (d : MockState) (flash bytes : List ℕ) (c : CommandBlock) → d .«current_command» ≡ state.None → readCommand bytes ≡ given c
+    → (c .«transfer_length» ≡ 0 → ⊥) → writeStepOf t v block (sessionOf d) flash bytes .told ≡ given tt
+    → (writeStepOf t v block (sessionOf d) flash bytes .next .«current_command» ≡ state.IO c) × (writeStepOf t v block (sessionOf d) flash bytes .leaves ≡ flash)
+unfolding writeStepOf writeRow startTurn done flashAfter pendingAfter pend
+taken-of (refused number values) v block d flash bytes c none read long h = absurd (let z : _≡_ {A = ℕ} 0 1 = cc in omega arith)
+taken-of (given sectors) v block d flash bytes c none read long h =
+    let turn : writeTurn v block (sessionOf d) sectors bytes ≡ done (state.IO c) (d .«last_reset») Nothing = rw (none, read, ne-eqb (c .«transfer_length») 0 long) in
+    (ap (λ (x : Turn). pend (pendingAfter (x .effect) bytes flash) (x .next .«current_command»)) turn, ap (λ (x : Turn). flashAfter (x .effect) bytes flash) turn)
 
 -- where what is left writes nothing
 gone-leaves : (budget : ℕ) (s next : UsbState) (reply : Reply) (told : Told Unit) → left (next .operation) ≤ 2 → Gone budget s next reply told
@@ -143,13 +148,18 @@ gone-leaves budget s next reply told h (gone b t e same) =
     let rest = still b next h in
     (t, (ap (λ (z : UsbState). z .flash) same ∙ rest .0, ap (λ (z : UsbState). z .«data») same ∙ rest .1))
 
+-- and the rest of the run
+gone-ends : (budget : ℕ) (s next : UsbState) (reply : Reply) (told : Told Unit) → Gone budget s next reply told
+    → (b : ℕ) × (runs usbTurn b next .end ≡ tells (given reply))
+gone-ends budget s next reply told (gone b t e same) = (b, e)
+
 -- the data step of an operation whose command the device awaits data for
 module _ (budget : ℕ) (s : UsbState) (reply : Reply) (c : CommandBlock) (enough : transferLength (s .operation) ≤ length (s .«data»))
     (here : s .operation .next ≡ operation.IO) (waits : s .device .«current_command» ≡ state.IO c) (e : runs usbTurn budget s .end ≡ tells (given reply)) where
-  data-written : s .operation .kind ≡ kind.Write
+  data-written : (sectors : ℕ) → flashSectors (length (s .flash)) ≡ given sectors → c .tag ≡ s .operation .command .tag → c .tag < 256 ^ 4 → s .operation .kind ≡ kind.Write
       → runs usbTurn budget s .state .flash ≡ over (c .«cd_address» * sectorSize) (take (transferLength (s .operation)) (s .«data»)) (s .flash)
   unfolding usbTurn transfers leftAt writeBulk
-  data-written k =
+  data-written sectors legal tag fits k =
       let op = s .operation in
       let bytes = take (transferLength op) (s .«data») in
       let w = writeBulk (s .device) (s .flash) bytes in
@@ -158,8 +168,14 @@ module _ (budget : ℕ) (s : UsbState) (reply : Reply) (c : CommandBlock) (enoug
       let next = usbState (turned op operation.CommandStatus asked.Nothing) (w .next) (w .leaves) (s .«data») in
       let turn : usbTurn s ≡ onward (w .told) next = ap (λ (x : Step). after x s) step in
       let left-two : left (next .operation) ≤ 2 = omega arith in
-      let g = gone-leaves budget s next reply (w .told) left-two (onward-gone budget s next reply (w .told) turn e) in
-      g .1 .0 ∙ stored (sessionOf (s .device)) (s .flash) bytes c waits (g .0) .leaves
+      let went = onward-gone budget s next reply (w .told) turn e in
+      let g = gone-leaves budget s next reply (w .told) left-two went in
+      let v = s .device .variety in
+      let block = s .device .config .«block_size_sectors» in
+      let put = stored v block (sessionOf (s .device)) (s .flash) bytes c waits (g .0) in
+      let rest = gone-ends budget s next reply (w .told) went in
+      let success = given-success next c (back.told v c bytes (s .flash)) sectors (ap flashSectors (write-long v block (sessionOf (s .device)) (s .flash) bytes) ∙ legal) refl (put .pending) tag fits (rest .0) reply (rest .1) in
+      g .1 .0 ∙ put .leaves ∙ as-asked v c bytes (s .flash) success
 
   data-read-out : s .operation .kind ≡ kind.Read → c .«cd_code» ≡ ReadLBA
       → (runs usbTurn budget s .state .flash ≡ s .flash)
@@ -175,7 +191,7 @@ module _ (budget : ℕ) (s : UsbState) (reply : Reply) (c : CommandBlock) (enoug
       let turn : usbTurn s ≡ received (g .told) asked.Sectors mid (g .leaves) = ap (λ (x : Step). after x s) step in
       let left-two : left (gives asked.Sectors mid (g .leaves) .operation) ≤ 2 = omega (arith, left-kept (mid .operation) [] (length (mid .«data»))) in
       let r = gone-leaves budget s (gives asked.Sectors mid (g .leaves)) reply (g .told) left-two (received-gone budget s mid (g .leaves) reply (g .told) turn e) in
-      (r .1 .0, r .1 .1 ∙ ap (λ (l : List ℕ). front l (s .«data»)) (supplied (sessionOf (s .device)) (s .device .config) (s .flash) buffer c waits code (r .0) .leaves))
+      (r .1 .0, r .1 .1 ∙ ap (λ (l : List ℕ). front l (s .«data»)) (supplied (s .device .variety) (sessionOf (s .device)) (s .device .config) (s .flash) buffer c waits code (r .0) .leaves))
 
 module _ (budget : ℕ) (s : UsbState) (reply : Reply) (enough : transferLength (s .operation) ≤ length (s .«data»)) (r : AtCommand s)
     (e : runs usbTurn budget s .end ≡ tells (given reply)) where
@@ -194,20 +210,20 @@ module _ (budget : ℕ) (s : UsbState) (reply : Reply) (enough : transferLength 
       onward-gone budget s begun reply (sent .told) (ap (λ (x : Step). after x s) step) e
 
   command-taken : sent .told ≡ given tt → (sent .next .«current_command» ≡ state.IO (s .operation .command)) × (sent .leaves ≡ s .flash)
-  unfolding writeBulk writeStep
+  unfolding writeBulk writeStepBy
   command-taken h =
       let c = s .operation .command in
-      taken-of (flashSectors (length (s .flash))) (s .device) (s .flash) (commandOut (s .operation)) c (r .none) (reads-back c (replicate 7 0) (r .fits) (omega arith)) (r .long) h
+      taken-of (flashSectors (length (s .flash))) (s .device .variety) (s .device .config .«block_size_sectors») (s .device) (s .flash) (commandOut (s .operation)) c (r .none) (reads-back c (replicate 7 0) (r .fits) (omega arith)) (r .long) h
 
   at-data : commanded (s .operation) .next ≡ operation.IO
   unfolding afterCommand
   at-data = rw (ne-eqb (transferLength (s .operation)) 0 (r .long))
 
-  run-written : s .operation .kind ≡ kind.Write → Gone budget s begun reply (sent .told)
+  run-written : (sectors : ℕ) → flashSectors (length (s .flash)) ≡ given sectors → s .operation .kind ≡ kind.Write → Gone budget s begun reply (sent .told)
       → runs usbTurn budget s .state .flash ≡ over (s .operation .command .«cd_address» * sectorSize) (take (transferLength (s .operation)) (s .«data»)) (s .flash)
-  run-written k (gone b t f same) =
+  run-written sectors legal k (gone b t f same) =
       let taken = command-taken t in
-      ap (λ (z : UsbState). z .flash) same ∙ data-written b begun reply (s .operation .command) enough at-data (taken .0) f k
+      ap (λ (z : UsbState). z .flash) same ∙ data-written b begun reply (s .operation .command) enough at-data (taken .0) f sectors (ap (λ (l : List ℕ). flashSectors (length l)) (taken .1) ∙ legal) refl (r .fits .tag) k
       ∙ ap (over (s .operation .command .«cd_address» * sectorSize) (take (transferLength (s .operation)) (s .«data»))) (taken .1)
 
   run-read : s .operation .kind ≡ kind.Read → s .operation .command .«cd_code» ≡ ReadLBA → Gone budget s begun reply (sent .told)
@@ -228,7 +244,11 @@ enough-lent : (s : UsbState) (store : ℕ) → sectorData (s .operation .kind) (
 unfolding runRules flashRules
 enough-lent s store same met = omega (arith, same, ltb-false (length (s .«data»)) (sectorData (s .operation .kind) (transferLength (s .operation))) (met .1 .1 .1 .0))
 
--- AN UNREFUSED WRITE leaves the flash with the data at its sectors, and all else as it was
+legal-flash : (s : UsbState) (store : ℕ) → Met (runRules s store) → flashSectors (length (s .flash)) ≡ given (length (s .flash) / sectorSize)
+unfolding runRules flashRules flashSectors orRefuse
+legal-flash s store met = rw (met .0, met .1 .0) refl
+
+-- AN UNREFUSED WRITE, of either variety, leaves the flash with the data at its sectors, and all else as it was
 pub write-lands : (s : UsbState) (store budget : ℕ) (reply : Reply) → AtCommand s → s .operation .kind ≡ kind.Write
     → usbRun s store budget .end ≡ tells (given reply)
     → usbRun s store budget .state .flash ≡ over (s .operation .command .«cd_address» * sectorSize) (take (transferLength (s .operation)) (s .«data»)) (s .flash)
@@ -239,7 +259,7 @@ write-lands s store budget reply r k =
     (unstarted s) (runRules s store) (runs usbTurn budget s) (λ n values e. not-told n values reply e)
     (λ met e.
     let enough = enough-lent s store (ap (λ (x : Kind). sectorData x (transferLength (s .operation))) k) met in
-    run-written budget s reply enough r e k (command-gone budget s reply enough r e))
+    run-written budget s reply enough r e (length (s .flash) / sectorSize) (legal-flash s store met) k (command-gone budget s reply enough r e))
 
 -- AN UNREFUSED READ gives the flash's bytes at its sectors, and leaves the flash as it was
 pub read-lands : (s : UsbState) (store budget : ℕ) (reply : Reply) → AtCommand s → s .operation .kind ≡ kind.Read → s .operation .command .«cd_code» ≡ ReadLBA

@@ -13,9 +13,10 @@ use Rattle.deck_block.specs.Refusals.{isAmong, blockRefusals}
 use Rattle.promise.specs.Rules.{pick}
 use Rattle.deck.specs.Bench.{nextNumber}
 use Rattle.deck_chunk.specs.Deck.{Table, dealOf, dealNext}
+use Rattle.mock_base.specs.declared.cells.Variety.{Variety}
 
-pub record Ready (sectors : ℕ) (h : Head) : Type 0 where
-  pub stands : Standing (h .device) (h .flash) (length (h .store)) sectors
+pub record Ready (v : Variety) (sectors : ℕ) (h : Head) : Type 0 where
+  pub stands : Standing v (h .device) (h .flash) (length (h .store)) sectors
   pub sized : Sized (h .device .config)
 
 -- the head of a deck, and what is lent to it

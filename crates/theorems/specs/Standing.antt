@@ -8,6 +8,7 @@ use Rattle.mock_base.specs.Flash.{flashSectors}
 use Rattle.mock_table.specs.declared.session.CommandState.the-variants.{None}
 use Rattle.mock.specs.declared.device.MockState.{MockState}
 use Rattle.operation_finish.specs.Reply.{capability}
+use Rattle.mock_base.specs.declared.cells.Variety.{Variety}
 use Rattle.mock_base.specs.declared.config.MockDeviceConfig.{MockDeviceConfig}
 use Rattle.mock_table.specs.Turn.{session}
 use Rattle.mock.specs.Device.{withSession, withAreas}
@@ -19,8 +20,9 @@ use Rattle.operation.specs.Record.{transferLength}
 use Rattle.mock_table.specs.declared.session.CommandState.the-variants as state
 use Rattle.protocol.specs.CommandBytes.{BlockFits}
 
--- a device with no transaction, lent a flash of so many sectors and a store of its own length
-pub record Standing (device : MockState) (flash : List ℕ) (store sectors : ℕ) : Type 0 where
+-- a device of this variety with no transaction, lent a flash of so many sectors and a store of its own length
+pub record Standing (v : Variety) (device : MockState) (flash : List ℕ) (store sectors : ℕ) : Type 0 where
+  pub own : device .variety ≡ v
   pub legal : flashSectors (length flash) ≡ given sectors
   pub stored : store ≡ device .«store_length»
   pub none : device .«current_command» ≡ None

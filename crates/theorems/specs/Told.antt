@@ -10,6 +10,10 @@ use Rattle.protocol.specs.Commands.{chipInfoCommand, flashIdCommand, flashInfoC
 use Rattle.operation_finish.specs.Reply.{Reply}
 use Rattle.operation_finish.specs.declared.Kind.{Kind}
 use Rattle.operation_finish.specs.declared.Kind.the-variants as kind
+use Rattle.mock_base.specs.declared.cells.Variety.{Variety}
+use Rattle.mock_base.specs.declared.cells.Variety.the-variants.{First, Nor}
+use Rattle.protocol_codes.specs.declared.Status as status
+use Rattle.protocol_codes.specs.declared.Status.the-variants.{SUCCESS, FAILED}
 
 -- the eleven starts, with numbers that their commands can hold and so many bytes of data lent
 pub data Started (lent : ℕ) : Kind → CommandBlock → Type 0 where
@@ -25,11 +29,19 @@ pub data Started (lent : ℕ) : Kind → CommandBlock → Type 0 where
   read : (tag first count : ℕ) → tag < 256 ^ 4 → first < 256 ^ 4 → count < 256 ^ 2 → count * sectorSize ≤ lent → Started lent kind.Read (readLbaCommand tag first count)
   write : (tag first count : ℕ) → tag < 256 ^ 4 → first < 256 ^ 4 → count < 256 ^ 2 → count * sectorSize ≤ lent → Started lent kind.Write (writeLbaCommand tag first count)
 
-pub data OperationTold : Told Reply → Type 0 where
-  replies : (reply : Reply) → OperationTold (given reply)
-  unknown : (values : List ℕ) → OperationTold (refused 53 values)
-  unexpected : OperationTold (refused 54 [])
-  out-of-range : OperationTold (refused 57 [])
+-- what a finish tells by the status that is pending: 15 where that is FAILED
+unfoldable pub byStatus : status.Status → Told Reply → Told Reply
+byStatus SUCCESS reply = reply
+byStatus FAILED reply = refused 15 []
+
+-- a reply, 53 and 57 of both varieties; 54 of the first alone, 15 and 63 of NOR alone
+pub data OperationTold : Variety → Told Reply → Type 0 where
+  replies : (v : Variety) (reply : Reply) → OperationTold v (given reply)
+  unknown : (v : Variety) (values : List ℕ) → OperationTold v (refused 53 values)
+  out-of-range : (v : Variety) → OperationTold v (refused 57 [])
+  unexpected : OperationTold First (refused 54 [])
+  failed : OperationTold Nor (refused 15 [])
+  splits-blocks : OperationTold Nor (refused 63 [])
 
 -- what an upload may be told
 pub data UploadTold : Told Unit → Type 0 where
