@@ -10,9 +10,12 @@ use super::{
 
 pub use random::random;
 
+const FLASH_ID: u8 = 0x01;
+const FLASH_INFO: u8 = 0x1a;
 const CHIP: u8 = 0x1b;
 const SWITCH: u8 = 0x2a;
 const STORAGE: u8 = 0x2b;
+const CAPABILITY: u8 = 0xaa;
 const SPI_NOR: u8 = 4;
 
 /// The sectors of `small`.
@@ -114,7 +117,7 @@ pub fn exhaustive() -> Vec<Case> {
     cases.extend([next_statuses(), statuses_not_read(), status_after_controls()]);
     cases.extend(BLOCK_SIZES.map(|block| erases(block, [ERASE_LBA, ERASE_FORCE])));
     cases.push(erases(4, [ERASE_FORCE, ERASE_LBA]));
-    cases.extend([switches(), storages(), storage_stays()]);
+    cases.extend([switches(), storages(), replies_stay()]);
     cases.extend(device::creations().into_iter().map(|case| started_as(case, 0)));
     cases.extend([no_blocks(), restarts(), restarted_under_a_run()]);
     cases.extend(ON_SMALL.map(budgets));
@@ -303,12 +306,14 @@ fn storages() -> Case {
     lines
 }
 
-/// Whatever is switched to, the storage is told as before, and the cells are the same.
-fn storage_stays() -> Case {
+/// Whatever is switched to, the storage and all else is told as before.
+fn replies_stay() -> Case {
     let mut lines = vec![small()];
-    for opcode in [SPI_NOR, 1, 255, SPI_NOR] {
+    for opcode in [1, SPI_NOR] {
         lines.extend(told(switch(opcode)));
-        lines.extend(asked(STORAGE, 4));
+        for (code, len) in [(STORAGE, 4), (FLASH_ID, 5), (CAPABILITY, 8), (FLASH_INFO, 11), (CHIP, 16)] {
+            lines.extend(asked(code, len));
+        }
     }
     lines
 }
@@ -316,7 +321,7 @@ fn storage_stays() -> Case {
 /// A block size of 0: erases of 0 sectors at 0 are of whole blocks, and no others.
 fn no_blocks() -> Case {
     let mut lines = vec![head(0, "f 2048 165")];
-    lines.extend(asked(0x1a, 11));
+    lines.extend(asked(FLASH_INFO, 11));
     lines.extend(written(0, 1, "f 512 5"));
     lines.extend(written(1, 1, "f 512 7"));
     for (address, count) in [(0, 0), (0, 4), (4, 0), (0, 5), (5, 0), (2, 2)] {
