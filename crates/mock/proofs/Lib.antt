@@ -6,5 +6,6 @@ pub mod Appended
 pub mod Keeps
 pub mod Controls
 pub mod Reached
+pub mod Nor
 pub mod Unique
 pub mod Wrong

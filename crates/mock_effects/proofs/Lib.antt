@@ -5,5 +5,6 @@ pub mod Programming
 pub mod Lengths
 pub mod Frames
 pub mod ReadBack
+pub mod Cells
 pub mod Unique
 pub mod Wrong

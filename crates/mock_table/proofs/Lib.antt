@@ -4,6 +4,7 @@ pub mod Meets
 pub mod Sane
 pub mod Own
 pub mod Accepted
+pub mod Touches
 pub mod FirstVariety
 pub mod Unique
 pub mod Wrong

@@ -43,7 +43,6 @@ use Rattle.mock_effects.proofs.Frames.{write-long}
 use Rattle.mock_effects.proofs.ReadBack.{stored, as-asked, supplied}
 use Rattle.mock_effects.proofs.ReadBack as back
 use Rattle.mock_base.specs.declared.cells.Variety.{Variety}
-
 use Rattle.promise.specs.Run.{Turned, ends, goes, End, tells, outOfSteps, Ran, follow, runs}
 use Rattle.run_turn.specs.Turn.{UsbState, usbState, onward, bufferFor, landed, gives, received, transfers, after, usbTurn}
 use Rattle.run_operation.specs.Run.{sectorData, runRules, unstarted, usbRun}
