@@ -245,7 +245,7 @@ module _ (config : MockDeviceConfig) (n m : ℕ) (r : MockStep) (meets : CreateM
   abbrev ZeroBlock : Type 0
   ZeroBlock = (sectors : ℕ) × (flashSectors n ≡ given sectors) × (config .«block_size_sectors» ≡ 0)
 
-  told-62 : (t : Told ℕ) → flashSectors n ≡ t → andThen t (λ sectors. unless (blockRules Nor (config .«block_size_sectors»)) (given tt)) ≡ refused 62 [] → ZeroBlock
+  told-62 : (t : Told ℕ) → flashSectors n ≡ t → _≡_ {A = Told Unit} (andThen t (λ sectors. unless (blockRules Nor (config .«block_size_sectors»)) (given tt))) (refused 62 []) → ZeroBlock
   unfolding andThen blockRules orRefuse number
   told-62 (refused k values) e told = absurd (size-refusals n k values e (ap (λ (x : Told Unit). number x) told))
   told-62 (given sectors) e told =
