@@ -87,7 +87,7 @@ no-bits-through i s flash _ _ nor (a-read t held buffer after r before m) = no-b
 no-bits-through i s flash _ _ nor (a-control t type request value index held bytes store after r before m) = no-bits-through i s flash t held nor before
 
 -- two lists of one length that are not equal differ at a place
-differ-at : (xs ys : List ℕ) → length xs ≡ length ys → same xs ys ≡ false → (i : ℕ) × (i < length ys) × (getD xs i 0 ≡ getD ys i 0 → ⊥)
+pub differ-at : (xs ys : List ℕ) → length xs ≡ length ys → same xs ys ≡ false → (i : ℕ) × (i < length ys) × (getD xs i 0 ≡ getD ys i 0 → ⊥)
 unfolding same
 differ-at [] [] long e = absurd (let z : _≡_ {A = ℕ} 0 1 = cc in omega arith)
 differ-at [] (y ∷ ys) long e = absurd (omega arith)
@@ -100,7 +100,7 @@ differ-at (x ∷ xs) (y ∷ ys) long e =
     (suc (d .0), omega (arith, d .1), d .2))
     (λ t. (0, omega arith, λ f. let z : true ≡ false = sym (eq-eqb x y f) ∙ t in let w : _≡_ {A = ℕ} 0 1 = cc in omega arith))
 
-failed-same : (all : Bool) → pick all SUCCESS FAILED ≡ FAILED → all ≡ false
+pub failed-same : (all : Bool) → pick all SUCCESS FAILED ≡ FAILED → all ≡ false
 failed-same true e = absurd (let z : _≡_ {A = ℕ} 0 1 = cc in omega arith)
 failed-same false e = refl
 

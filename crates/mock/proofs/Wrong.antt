@@ -4,10 +4,13 @@ use mathlib.Core.Path.{_≡_, ap, sym, _∙_}
 use mathlib.Core.List.{List, [], _∷_}
 use native.Mathlib.Omega.{arith}
 use lib.ListN.{getD, replicate}
-use Rattle.promise.specs.Told.{number, andThen}
+use Rattle.promise.specs.Told.{refused, number, andThen}
 use Rattle.promise.specs.Rules.{orRefuse}
+use Rattle.promise.specs.Bytes.{lowFirst, highFirst}
 use Rattle.promise.specs.Over.{over}
-use Rattle.protocol_codes.specs.Numbers.{resetNumber}
+use Rattle.protocol_codes.specs.Numbers.{resetNumber, statusNumber}
+use Rattle.protocol_status.specs.StatusBytes.{statusBytes}
+use Rattle.protocol_bytes.specs.Signature.{same}
 use Rattle.protocol_codes.specs.declared.ResetOpcode.the-variants.{Reset, Maskrom}
 use Rattle.protocol_codes.specs.declared.Status.the-variants.{SUCCESS, FAILED}
 use Rattle.protocol.specs.Commands.{writeLbaCommand}
@@ -28,9 +31,9 @@ use Rattle.mock_table.specs.declared.session.LastReset.the-variants as reset
 use Rattle.mock_base.specs.declared.cells.Variety.{Variety}
 use Rattle.mock_base.specs.declared.cells.Variety.the-variants.{First, Nor}
 use Rattle.mock_base.specs.declared.config.MockDeviceConfig.{MockDeviceConfig}
-use Rattle.mock_effects.specs.Effects.{flashAfter, pendingAfter}
+use Rattle.mock_effects.specs.Effects.{programmed, cellsTold, flashAfter, pendingAfter, replyBytes, bufferAfter}
 use Rattle.mock_effects.specs.Steps.{pend, failed, writeStepOf, writeStepBy, readStepOf, readStepBy}
-use Rattle.mock.specs.Device.{MockMeets, CreateMeets, createTold, created, freshState, writeBulk, readBulk, isUpload, controlRules, writeControl, maskromArea}
+use Rattle.mock.specs.Device.{MockMeets, CreateMeets, blockRules, createTold, created, freshState, writeBulk, readBulk, isUpload, controlRules, writeControl, maskromArea}
 use Rattle.mock.specs.declared.device.MockState.{MockState}
 use Rattle.mock.specs.declared.device.MockStep.{MockStep}
 
@@ -50,6 +53,16 @@ waits s = stateNumber (s .«current_command»)
 abbrev resetTold : LastReset → ℕ
 resetTold reset.None = 5
 resetTold (reset.Some opcode) = resetNumber opcode
+
+-- the variety, and the status that is pending, by number; 2 where none is
+abbrev varietyNumber : Variety → ℕ
+varietyNumber First = 0
+varietyNumber Nor = 1
+
+abbrev pendingNumber : CommandState → ℕ
+pendingNumber None = 2
+pendingNumber (IO c) = 2
+pendingNumber (Status c status) = statusNumber status
 
 -- where an area was found, 0 for not held
 abbrev startOf : AreaFound → ℕ
@@ -75,6 +88,11 @@ module _ (config : MockDeviceConfig) where
   device state last =
       record { config = config; variety = First; areas = heldBy freshAreas 1 5 3; «store_length» = 72; «last_reset» = last; «current_command» = state }
 
+  -- the same with NOR flash
+  abbrev nor-device : CommandState → LastReset → MockState
+  nor-device state last =
+      record { config = config; variety = Nor; areas = heldBy freshAreas 1 5 3; «store_length» = 72; «last_reset» = last; «current_command» = state }
+
   -- `MockState::new`: the flash measured for the store
   pub flash-measured-for-the-store : (r : MockStep) → r .state .«store_length» ≡ 512 → CreateMeets r (created First config 512 72) → ⊥
   unfolding created freshState
@@ -86,7 +104,55 @@ module _ (config : MockDeviceConfig) where
   unfolding created createTold number andThen flashSectors flashRules orRefuse
   flash-length-not-told r e meets = let z : _≡_ {A = ℕ} 0 60 = sym e ∙ ap number (meets .tells .tells) in omega arith
 
+  -- a NOR head made
+  pub made-nor : (r : MockStep) → r .state .variety ≡ Nor → CreateMeets r (created First config 512 72) → ⊥
+  unfolding created freshState
+  made-nor r e meets = let z : _≡_ {A = ℕ} 1 0 = sym (ap varietyNumber e) ∙ ap (λ (s : MockState). varietyNumber (s .variety)) (meets .fresh) in omega arith
+
+  -- `MockState::new_nor`: a head of the first variety made
+  pub made-first : (r : MockStep) → r .state .variety ≡ First → CreateMeets r (created Nor config 512 72) → ⊥
+  unfolding created freshState
+  made-first r e meets = let z : _≡_ {A = ℕ} 0 1 = sym (ap varietyNumber e) ∙ ap (λ (s : MockState). varietyNumber (s .variety)) (meets .fresh) in omega arith
+
+  -- the block size told before the flash's length
+  pub block-before-length : (r : MockStep) → told r ≡ 62 → CreateMeets r (created Nor config 513 72) → ⊥
+  unfolding created createTold number andThen flashSectors flashRules orRefuse
+  block-before-length r e meets = let z : _≡_ {A = ℕ} 62 60 = sym e ∙ ap number (meets .tells .tells) in omega arith
+
+  module _ (zero : config .«block_size_sectors» ≡ 0) where
+    told-62 : createTold Nor (config .«block_size_sectors») 512 ≡ refused 62 []
+    unfolding createTold blockRules andThen flashSectors flashRules orRefuse
+    told-62 = ap (λ (n : ℕ). createTold Nor n 512) zero
+
+    -- a block size of 0 taken
+    pub zero-block-taken : (r : MockStep) → told r ≡ 0 → CreateMeets r (created Nor config 512 72) → ⊥
+    unfolding created number
+    zero-block-taken r e meets = let z : _≡_ {A = ℕ} 0 62 = sym e ∙ ap number (meets .tells .tells ∙ told-62) in omega arith
+
+    -- .. and refused by the first variety
+    pub first-asks-for-blocks : (r : MockStep) → told r ≡ 62 → CreateMeets r (created First config 512 72) → ⊥
+    unfolding created createTold blockRules number andThen flashSectors flashRules orRefuse
+    first-asks-for-blocks r e meets = let z : _≡_ {A = ℕ} 62 0 = sym e ∙ ap number (meets .tells .tells) in omega arith
+
   module _ (last : LastReset) where
+    -- `MockState::write_bulk`: a NOR head that stores as the first variety does
+    pub stores-as-the-first : (r : MockStep) → MockMeets r ones (writeBulk (nor-device (IO command) last) flash ones) → ⊥
+    unfolding writeBulk writeStepBy writeStepOf flashSectors flashRules orRefuse writeRow writeIoTurn sectorTurn isOut hasCode fitsIn done movedBy storedBy flashAfter programmed over
+    stores-as-the-first r meets = let z : _≡_ {A = ℕ} 1 0 = ap (λ (l : List ℕ). getD l 0 0) (meets .leaves) in omega arith
+
+    -- FAILED kept from the record that is handed back
+    pub failed-not-kept : (r : MockStep) (after : List ℕ) → r .state .«current_command» ≡ Status command SUCCESS
+        → MockMeets r after (writeBulk (nor-device (IO command) last) flash ones) → ⊥
+    unfolding writeBulk writeStepBy writeStepOf flashSectors flashRules orRefuse writeRow writeIoTurn sectorTurn isOut hasCode fitsIn done movedBy storedBy pendingAfter cellsTold programmed same pend failed
+    failed-not-kept r after e meets =
+        let z : _≡_ {A = ℕ} 0 1 = sym (ap pendingNumber e) ∙ ap (λ (s : MockState). pendingNumber (s .«current_command»)) (meets .next) in omega arith
+
+    -- `MockState::read_bulk`: success told where FAILED is pending
+    pub failed-told-as-success : (r : MockStep) (after : List ℕ) → getD after 12 0 ≡ 0
+        → MockMeets r after (readBulk (nor-device (Status command FAILED) last) flash (replicate 13 0)) → ⊥
+    unfolding readBulk readStepBy readStepOf flashSectors flashRules orRefuse readRow statusTurn replySize done bufferAfter replyBytes statusBytes lowFirst highFirst
+    failed-told-as-success r after e meets = let z : _≡_ {A = ℕ} 0 1 = sym e ∙ ap (λ (l : List ℕ). getD l 12 0) (meets .leaves) in omega arith
+
     -- `MockState::write_bulk`: nothing written
     pub write-does-nothing : (r : MockStep) → MockMeets r flash (writeBulk (device (IO command) last) flash ones) → ⊥
     unfolding writeBulk writeStepBy writeStepOf flashSectors flashRules orRefuse writeRow writeIoTurn sectorTurn isOut hasCode fitsIn done movedBy storedBy flashAfter over

@@ -1,5 +1,5 @@
 -- NOR cells, byte by byte: a write sets no bit, and a byte that has one more was erased, in a block that was erased whole.
-use Prim.Native.Nat.{ℕ, suc, _%_, _+_, _-_, _*_, _/_, _≤_, _<_}
+use Prim.Native.Nat.{ℕ, zero, suc, _%_, _+_, _-_, _*_, _/_, _≤_, _<_}
 use mathlib.Core.Path.{_≡_, refl, ap, sym, subst, _∙_}
 use mathlib.Core.Bool.{Bool, true, false, not}
 use mathlib.Core.Logic.{_⊎_, inl, inr}
@@ -10,12 +10,14 @@ use lib.Arith.{bin-ind}
 use lib.Bits.{bitAnd, and-step, and-self}
 use lib.Dec.{eqb, ltb}
 use lib.ListN.{length, take, drop, getD, replicate, length-replicate, length-drop, List·getD-append}
-use lib.Seq.{getD-take, getD-drop, getD-append-add, length-take-le}
+use lib.Seq.{getD-take, getD-drop, getD-append-add, length-take-le, drop-at, drop-drop}
 use borrow.Author.Tests.{eqb-true, ne-eqb, ltb-false, ltb-true}
 use Rattle.promise.specs.Told.{Told, given, refused}
 use Rattle.promise.specs.Rules.{pick}
+use Rattle.promise.specs.Bytes.{AreBytes}
 use Rattle.promise.specs.Over.{over}
 use Rattle.promise.proofs.Outcome.{on-test}
+use Rattle.protocol_codes.specs.declared.Status.the-variants.{SUCCESS}
 use Rattle.protocol_bytes.specs.Sector.{sectorSize}
 use Rattle.protocol.specs.declared.CommandBlock.{CommandBlock}
 use Rattle.mock_base.specs.declared.cells.Variety.the-variants.{Nor}
@@ -30,11 +32,11 @@ use Rattle.mock_table.specs.Erasing.{commandIn}
 use Rattle.mock_table.specs.declared.session.Session.{Session}
 use Rattle.mock_table.proofs.Sane.{write-sane}
 use Rattle.mock_table.proofs.Touches.{OnFlash, write-touches}
-use Rattle.mock_effects.specs.Effects.{erased, programmed, flashAfter}
+use Rattle.mock_effects.specs.Effects.{erased, programmed, cellsTold, flashAfter}
 use Rattle.mock_effects.specs.Steps.{writeStepOf, writeStepBy}
 use Rattle.mock_effects.specs.Cells.{GainsNone, ErasedPlace}
 use Rattle.mock_effects.proofs.Lengths.{taken}
-use Rattle.mock_effects.proofs.Programming.{length-programmed, bits-kept}
+use Rattle.mock_effects.proofs.Programming.{length-programmed, bits-kept, erased-take, tells-success}
 
 -- clearing twice is clearing once
 and-again : (a b : ℕ) → bitAnd a (bitAnd a b) ≡ bitAnd a b
@@ -89,6 +91,30 @@ module _ (at : ℕ) (bytes before : List ℕ) (inside : at + length bytes ≤ le
       ∙ getD-append-add bytes (drop (at + length bytes) before) k 0
       ∙ getD-drop (at + length bytes) before k 0
       ∙ ap (λ (x : ℕ). getD before x 0) f)
+
+-- erased cells take all that is asked of them
+
+drop-filled : (k n : ℕ) (rest : List ℕ) → k ≤ n → drop k (replicate n erased ++ rest) ≡ replicate (n - k) erased ++ rest
+drop-filled zero n rest h = let e : n ≡ n - 0 = omega arith in ap (λ (k : ℕ). replicate k erased ++ rest) e
+drop-filled (suc k) zero rest h = absurd (omega arith)
+drop-filled (suc k) (suc n) rest h =
+    let e : n - k ≡ suc n - suc k = omega arith in drop-filled k n rest (omega arith) ∙ ap (λ (j : ℕ). replicate j erased ++ rest) e
+
+pub taken-after-erase : (at n from : ℕ) (bytes flash : List ℕ) → at + n ≤ length flash → at ≤ from → from + length bytes ≤ at + n → AreBytes bytes
+    → cellsTold bytes (drop from (over at (replicate n erased) flash)) ≡ SUCCESS
+unfolding over
+taken-after-erase at n from bytes flash inside low high are =
+    let filled = replicate n erased in
+    let long : length filled ≡ n = length-replicate n erased in
+    let rest = drop (at + length filled) flash in
+    let k = from - at in
+    let e : at + k ≡ from = omega arith in
+    let whole : drop from (over at filled flash) ≡ replicate (n - k) erased ++ rest =
+    ap (λ (x : ℕ). drop x (over at filled flash)) (sym e)
+    ∙ sym (drop-drop k at (over at filled flash))
+    ∙ ap (drop k) (drop-at (take at flash) (filled ++ rest) at (length-take-le at flash (omega arith)))
+    ∙ drop-filled k n rest (omega arith) in
+    tells-success bytes (drop from (over at filled flash)) (ap (programmed bytes) whole ∙ erased-take (n - k) bytes rest (omega arith) are)
 
 -- before it, inside it or behind it
 by-place : {C : Type 0} (at n i : ℕ) → (i < at → C) → (at ≤ i → i < at + n → C) → (at + n ≤ i → C) → C

@@ -39,17 +39,17 @@ use Rattle.protocol_codes.specs.declared.Status.the-variants.{SUCCESS, FAILED}
 use Rattle.mock_base.specs.declared.cells.Variety.{Variety}
 use Rattle.mock.specs.declared.device.MockState.{MockState}
 use Rattle.mock.specs.Device.{Call, withSession, writeBulk}
-use Rattle.promise.specs.Run.{tells, follow, runs}
-use Rattle.run_turn.specs.Turn.{usbState, onward, wrote, bufferFor, landed, gives, received, got, transfers, after, usbTurn}
+use Rattle.promise.specs.Run.{tells, Ran, ran, counted, follow, runs}
+use Rattle.run_turn.specs.Turn.{UsbState, usbState, onward, wrote, bufferFor, landed, gives, received, got, transfers, after, usbTurn}
 use Rattle.run_operation.specs.Run.{sectorData}
 use Rattle.theorems.proofs.NoTransactionLeft.{landed-long}
 use Rattle.mock_effects.proofs.ReadBack.{pend-told}
 use Rattle.theorems.specs.Told.{byStatus}
 use Rattle.theorems.proofs.CallsByTurn.{asCall, applied, writes-as, reads-as}
-use Rattle.theorems.proofs.FromStatus.{answered}
+use Rattle.theorems.proofs.FromStatus.{answered, answered-whole}
 use Rattle.theorems.specs.Standing.{Standing}
-use Rattle.theorems.proofs.FromStart.{long-left, awaiting, awaits}
-use Rattle.theorems.specs.Runs.{operationRun}
+use Rattle.theorems.proofs.FromStart.{long-left, awaiting, awaits-whole, awaits}
+use Rattle.theorems.specs.Runs.{operationRun, rearmed}
 use Rattle.protocol.specs.CommandBytes.{BlockFits}
 
 module _ (k : Kind) (c : CommandBlock) (v : Variety) (device : MockState) (flash bytes : List ℕ) (store sectors : ℕ) (stands : Standing v device flash store sectors)
@@ -88,13 +88,19 @@ module _ (k : Kind) (c : CommandBlock) (v : Variety) (device : MockState) (flash
     unfolding writeRow
     written = writes-as waiting flash (take n bytes) sectors (IO c) t (stands .legal) refl turn
 
-    data-written-by : operationRun k c device flash bytes store .end
-        ≡ follow (onward (t .told) (usbState (behind asked.Nothing) (withSession device (applied t (take n bytes) flash .next)) (flashAfter (t .effect) (take n bytes) flash) bytes)) (λ next. runs usbTurn 2 next) .end
+    -- the state behind the data
+    abbrev put : UsbState
+    put = usbState (behind asked.Nothing) (withSession device (applied t (take n bytes) flash .next)) (flashAfter (t .effect) (take n bytes) flash) bytes
+
+    data-written-whole : operationRun k c device flash bytes store ≡ counted 1 (follow (onward (t .told) put) (λ next. runs usbTurn 2 next))
     unfolding runs usbTurn transfers
-    data-written-by =
-        awaits k c v device flash bytes store sectors stands fits enough some
-        ∙ ap (λ (x : Step). follow (after x (awaiting k c device flash bytes)) (λ next. runs usbTurn 2 next) .end) step
-        ∙ ap (λ (x : Call). follow (wrote (usbState (behind asked.Nothing) waiting flash bytes) x) (λ next. runs usbTurn 2 next) .end) written
+    data-written-whole =
+        awaits-whole k c v device flash bytes store sectors stands fits enough some
+        ∙ ap (λ (x : Step). counted 1 (follow (after x (awaiting k c device flash bytes)) (λ next. runs usbTurn 2 next))) step
+        ∙ ap (λ (x : Call). counted 1 (follow (wrote (usbState (behind asked.Nothing) waiting flash bytes) x) (λ next. runs usbTurn 2 next))) written
+
+    data-written-by : operationRun k c device flash bytes store .end ≡ follow (onward (t .told) put) (λ next. runs usbTurn 2 next) .end
+    data-written-by = ap (λ (r : Ran Reply UsbState). r .end) data-written-whole
 
   -- in-band bytes
   module _ (inband : ioOf k ≡ io.Inband) where
@@ -173,15 +179,28 @@ module _ (k : Kind) (c : CommandBlock) (v : Variety) (device : MockState) (flash
       write-refused number values turn =
           data-written-by size-lent write-step (refuses (device .«last_reset») number values) (sized (refuses (device .«last_reset») number values) turn)
 
-      pub write-answered : (moves : Effect) → writeIoTurn (device .variety) (device .«last_reset») c sectors size-lent ≡ done (Status c SUCCESS) (device .«last_reset») moves
-          → operationRun k c device flash bytes store .end
-          ≡ tells (byStatus (pendingAfter moves (take size-lent bytes) flash) (replyOf k size-lent 0 (replicate 16 0)))
+      -- the state behind the data, whose effect was this
+      abbrev pub wrote-by : Effect → UsbState
+      wrote-by moves =
+          usbState (behind asked.Nothing)
+          (withSession device (session (pend (pendingAfter moves (take size-lent bytes) flash) (Status c SUCCESS)) (device .«last_reset»)))
+          (flashAfter moves (take size-lent bytes) flash) bytes
+
+      pub write-answered-whole : (moves : Effect) → writeIoTurn (device .variety) (device .«last_reset») c sectors size-lent ≡ done (Status c SUCCESS) (device .«last_reset») moves
+          → operationRun k c device flash bytes store
+          ≡ ran (tells (byStatus (pendingAfter moves (take size-lent bytes) flash) (replyOf k size-lent 0 (replicate 16 0)))) 4
+          (rearmed (wrote-by moves) (c .tag) (pendingAfter moves (take size-lent bytes) flash))
       unfolding follow onward done
-      write-answered moves turn =
+      write-answered-whole moves turn =
           let t = done (Status c SUCCESS) (device .«last_reset») moves in
           let pending = pendingAfter moves (take size-lent bytes) flash in
           let after = flashAfter moves (take size-lent bytes) flash in
           let legal : flashSectors (length after) ≡ given sectors =
           ap flashSectors (long-left waiting flash (take size-lent bytes) (applied t (take size-lent bytes) flash) after (written size-lent write-step t (sized t turn))) ∙ stands .legal in
-          data-written-by size-lent write-step t (sized t turn)
-          ∙ answered (usbState (behind asked.Nothing) (withSession device (session (pend pending (Status c SUCCESS)) (device .«last_reset»))) after bytes) c pending sectors legal refl (pend-told pending c) refl (fits .tag) 0
+          data-written-whole size-lent write-step t (sized t turn)
+          ∙ ap (λ (r : Ran Reply UsbState). counted 1 (counted 1 r)) (answered-whole (wrote-by moves) c pending sectors legal refl (pend-told pending c) refl (fits .tag) 0)
+
+      pub write-answered : (moves : Effect) → writeIoTurn (device .variety) (device .«last_reset») c sectors size-lent ≡ done (Status c SUCCESS) (device .«last_reset») moves
+          → operationRun k c device flash bytes store .end
+          ≡ tells (byStatus (pendingAfter moves (take size-lent bytes) flash) (replyOf k size-lent 0 (replicate 16 0)))
+      write-answered moves turn = ap (λ (r : Ran Reply UsbState). r .end) (write-answered-whole moves turn)

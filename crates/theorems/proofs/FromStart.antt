@@ -31,15 +31,15 @@ use Rattle.mock_base.specs.declared.cells.Variety.{Variety}
 use Rattle.mock.specs.declared.device.MockState.{MockState}
 use Rattle.mock.specs.Device.{Call, sessionOf, withSession, writeBulk}
 use Rattle.mock_effects.proofs.Frames.{write-long}
-use Rattle.promise.specs.Run.{tells, Ran, follow, runs}
+use Rattle.promise.specs.Run.{tells, Ran, ran, counted, follow, runs}
 use Rattle.run_turn.specs.Turn.{UsbState, usbState, onward, wrote, transfers, usbTurn}
 use Rattle.run_operation.specs.Run.{sectorData, wholeBudget}
 use Rattle.run_operation.proofs.Checks.{unrefused}
 use Rattle.theorems.specs.Standing.{Standing}
 use Rattle.theorems.specs.Told.{byStatus}
 use Rattle.theorems.proofs.CallsByTurn.{asCall, applied, writes-as}
-use Rattle.theorems.proofs.FromStatus.{answered}
-use Rattle.theorems.specs.Runs.{operationRun}
+use Rattle.theorems.proofs.FromStatus.{answered-whole}
+use Rattle.theorems.specs.Runs.{operationRun, rearmed}
 use Rattle.protocol.specs.CommandBytes.{BlockFits}
 
 -- the state once its command is out and the device awaits its data
@@ -81,22 +81,33 @@ module _ (k : Kind) (c : CommandBlock) (v : Variety) (device : MockState) (flash
         ap (λ (r : Ran Reply UsbState). r .end) begun ∙ ap (λ (x : Told Unit). follow (onward x (commanded-by t)) (λ next. runs usbTurn 3 next) .end) e
 
   -- a command with no data that is done at once, and whose effect does not fail
-  pub done-at-once : (pending : status.Status) (reset : LastReset) (effect : Effect) → c .«transfer_length» ≡ 0
+  pub done-at-once-whole : (pending : status.Status) (reset : LastReset) (effect : Effect) → c .«transfer_length» ≡ 0
       → startTurn (device .variety) block (given c) (device .«last_reset») sectors ≡ done (Status c pending) reset effect
       → pendingAfter effect (commandOut (fresh k c)) flash ≡ SUCCESS
-      → operationRun k c device flash bytes store .end ≡ tells (byStatus pending (replyOf k (c .«transfer_length») 0 (replicate 16 0)))
+      → operationRun k c device flash bytes store
+      ≡ ran (tells (byStatus pending (replyOf k (c .«transfer_length») 0 (replicate 16 0)))) 3
+      (rearmed (commanded-by (done (Status c pending) reset effect)) (c .tag) pending)
   unfolding follow onward done afterCommand pend
-  done-at-once pending reset effect empty first taken-all =
+  done-at-once-whole pending reset effect empty first taken-all =
       let t = done (Status c pending) reset effect in
       let waits : pend (pendingAfter effect (commandOut (fresh k c)) flash) (Status c pending) ≡ Status c pending =
       ap (λ (p : status.Status). pend p (Status c pending)) taken-all in
       let here : afterCommand (c .«transfer_length») ≡ operation.CommandStatus = rw (eq-eqb (c .«transfer_length») 0 empty) in
-      ap (λ (r : Ran Reply UsbState). r .end) (begun t first)
-      ∙ answered (commanded-by t) c pending sectors (ap flashSectors (long-left device flash (commandOut (fresh k c)) (applied t (commandOut (fresh k c)) flash) (flashAfter effect (commandOut (fresh k c)) flash) (taken t first)) ∙ stands .legal)
-      here waits refl (fits .tag) 1
+      begun t first
+      ∙ ap (counted 1) (answered-whole (commanded-by t) c pending sectors (ap flashSectors (long-left device flash (commandOut (fresh k c)) (applied t (commandOut (fresh k c)) flash) (flashAfter effect (commandOut (fresh k c)) flash) (taken t first)) ∙ stands .legal)
+      here waits refl (fits .tag) 1)
+
+  pub done-at-once : (pending : status.Status) (reset : LastReset) (effect : Effect) → c .«transfer_length» ≡ 0
+      → startTurn (device .variety) block (given c) (device .«last_reset») sectors ≡ done (Status c pending) reset effect
+      → pendingAfter effect (commandOut (fresh k c)) flash ≡ SUCCESS
+      → operationRun k c device flash bytes store .end ≡ tells (byStatus pending (replyOf k (c .«transfer_length») 0 (replicate 16 0)))
+  done-at-once pending reset effect empty first taken-all =
+      ap (λ (r : Ran Reply UsbState). r .end) (done-at-once-whole pending reset effect empty first taken-all)
 
   -- one with data is awaited
-  pub awaits : (c .«transfer_length» ≡ 0 → ⊥) → operationRun k c device flash bytes store .end ≡ runs usbTurn 3 (awaiting k c device flash bytes) .end
+  pub awaits-whole : (c .«transfer_length» ≡ 0 → ⊥) → operationRun k c device flash bytes store ≡ counted 1 (runs usbTurn 3 (awaiting k c device flash bytes))
   unfolding follow onward done startTurn flashAfter pendingAfter pend
-  awaits some =
-      ap (λ (r : Ran Reply UsbState). r .end) (begun (done (IO c) (device .«last_reset») Nothing) (rw (ne-eqb (c .«transfer_length») 0 some)))
+  awaits-whole some = begun (done (IO c) (device .«last_reset») Nothing) (rw (ne-eqb (c .«transfer_length») 0 some))
+
+  pub awaits : (c .«transfer_length» ≡ 0 → ⊥) → operationRun k c device flash bytes store .end ≡ runs usbTurn 3 (awaiting k c device flash bytes) .end
+  awaits some = ap (λ (r : Ran Reply UsbState). r .end) (awaits-whole some)

@@ -34,9 +34,10 @@ use Rattle.mock_table.specs.declared.outcome.Effect.the-variants as effect
 use Rattle.mock_table.specs.declared.outcome.ReplyKind.the-variants as reply
 use Rattle.mock_effects.specs.Effects.{replyBytes, bufferAfter}
 use Rattle.mock.specs.Device.{Call, withSession, readBulk}
-use Rattle.promise.specs.Run.{ends, goes, End, tells, outOfSteps, follow, runs}
+use Rattle.promise.specs.Run.{ends, goes, End, tells, outOfSteps, Ran, ran, follow, runs}
 use Rattle.run_turn.specs.Turn.{UsbState, usbState, bufferFor, landed, gives, received, got, transfers, after, usbTurn}
 use Rattle.operation_finish.specs.declared.Kind.{Kind}
+use Rattle.theorems.specs.Runs.{rearmed}
 use Rattle.theorems.specs.Told.{byStatus}
 use Rattle.theorems.proofs.CallsByTurn.{reads-as}
 
@@ -99,18 +100,25 @@ module _ (s : UsbState) (c : CommandBlock) (pending : status.Status) (sectors : 
       ∙ ap (λ (x : Call). got asked.Status now x) status-read
       ∙ ap (λ (x : UsbOperation). goes (usbState x (withSession (s .device) (session None (s .device .«last_reset»))) (s .flash) (s .«data»))) status-given
 
-  -- ANSWERED. Two more turns, and the end is the reply of an operation that moved all of its data, or 15
-  pub answered : (budget : ℕ) → runs usbTurn (suc (suc budget)) s .end
-      ≡ tells (byStatus pending (replyOf (s .operation .kind) (transferLength (s .operation)) 0 (s .operation .«data»)))
+  -- ANSWERED. Two more turns, and the end is the reply of an operation that moved all of its data, or 15; the operation is rearmed, and the device has no
+  -- transaction
+  abbrev pub ended : End Reply
+  ended = tells (byStatus pending (replyOf (s .operation .kind) (transferLength (s .operation)) 0 (s .operation .«data»)))
+
+  pub answered-whole : (budget : ℕ) → runs usbTurn (suc (suc budget)) s ≡ ran ended 2 (rearmed s (c .tag) pending)
   unfolding runs follow
-  answered budget =
+  answered-whole budget =
       let op = s .operation in
       let got = front given-bytes (op .«command_bytes») in
       let next = usbState (withStatus asking got) (withSession (s .device) (session None (s .device .«last_reset»))) (s .flash) (s .«data») in
       let behind : List ℕ = drop (length (statusBytes report)) (replicate 13 0) in
       let rest = drop (length given-bytes) (op .«command_bytes») in
       let read = ap readStatus (append-assoc (statusBytes report) behind rest) ∙ reads-back report (behind ++ rest) (record { tag = fits; residue = omega arith }) in
-      rw (status-turn, finish-turn next refl) (ap tells (by-finish pending (op .kind) (op .command .tag) (transferLength op) got (op .«data») report read refl tag))
+      rw (status-turn, finish-turn next refl)
+      (ap (λ (t : Told Reply). ran (tells t) 2 (rearmed s (c .tag) pending)) (by-finish pending (op .kind) (op .command .tag) (transferLength op) got (op .«data») report read refl tag))
+
+  pub answered : (budget : ℕ) → runs usbTurn (suc (suc budget)) s .end ≡ ended
+  answered budget = ap (λ (r : Ran Reply UsbState). r .end) (answered-whole budget)
 
   -- GIVEN. A run from here that gives a reply met a status of success
   pub given-success : (budget : ℕ) (reply : Reply) → runs usbTurn budget s .end ≡ tells (given reply) → pending ≡ SUCCESS

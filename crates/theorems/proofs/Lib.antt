@@ -62,6 +62,7 @@ pub mod PassedOn
 pub mod FromStart
 pub mod FromData
 pub mod OperationEnds
+pub mod NorRuns
 pub mod LinkedSectors
 pub mod OperationTold
 pub mod CommandsAreBytes

@@ -71,7 +71,7 @@ module _ (v : Variety) (last : LastReset) (c : CommandBlock) (direction : Direct
   abbrev size : ℕ
   size = c .«cd_length» * sectorSize
 
-  sector-fits : fitsIn sectors (c .«cd_address») (c .«cd_length») ≡ true → sectorTurn v last c direction sectors size ≡ done (Status c SUCCESS) last (movedBy v direction (rangeOf c))
+  pub sector-fits : fitsIn sectors (c .«cd_address») (c .«cd_length») ≡ true → sectorTurn v last c direction sectors size ≡ done (Status c SUCCESS) last (movedBy v direction (rangeOf c))
   unfolding sectorTurn orRefuse
   sector-fits e = rw (e, eq-eqb size size refl)
 

@@ -2,7 +2,7 @@
 use Prim.Native.Nat.{ℕ}
 use mathlib.Core.Bool.{Bool}
 use mathlib.Core.List.{List}
-use lib.ListN.{length}
+use lib.ListN.{length, replicate}
 use Rattle.maskrom.specs.Whole.{freshWhole}
 use Rattle.mock.specs.declared.device.MockState.{MockState}
 use Rattle.mock.specs.Device.{Call, writeControl}
@@ -15,6 +15,15 @@ use Rattle.operation.specs.Record.{fresh}
 use Rattle.run_turn.specs.Turn.{UsbState, usbState}
 use Rattle.run_operation.specs.Run.{usbRun, wholeBudget}
 use Rattle.promise.specs.Told.{given}
+use Rattle.promise.specs.Bytes.{front}
+use Rattle.protocol_codes.specs.declared.Status as status
+use Rattle.protocol_status.specs.StatusBytes.{statusBytes}
+use Rattle.operation.specs.declared.steps.Operation.the-variants as operation
+use Rattle.operation.specs.declared.steps.Asked.the-variants as asked
+use Rattle.operation.specs.Record.{turned, withStatus}
+use Rattle.mock_table.specs.Turn.{session}
+use Rattle.mock_table.specs.declared.session.CommandState.the-variants.{None}
+use Rattle.mock.specs.Device.{withSession}
 
 -- the control write of a transfer: "type 0x40, request 0xc, value 0, index the area"
 abbrev pub written : MockState → ℕ → List ℕ → List ℕ → Call
@@ -31,3 +40,16 @@ operationRun k c device flash bytes store = usbRun (usbState (fresh k c) device 
 -- an accepted control write that leaves the device and the store so
 abbrev pub accepts : MockState → List ℕ → Call
 accepts next leaves = record { told = given tt; next = next; leaves = leaves }
+
+-- the status that a stand-in gives, and what it leaves of the bytes that an operation reads it into
+abbrev pub statusInto : ℕ → status.Status → List ℕ → List ℕ
+statusInto tag pending held = front (front (statusBytes (record { tag = tag; residue = 0; status = pending })) (replicate 13 0)) held
+
+-- an operation that has read such a status and finished, and so starts again at its command; the device has no transaction
+abbrev pub rearmed : UsbState → ℕ → status.Status → UsbState
+rearmed s tag pending =
+    usbState
+    (turned (withStatus (turned (s .operation) operation.Finish asked.Status) (statusInto tag pending (s .operation .«command_bytes»)))
+    operation.CommandBlock asked.Nothing)
+    (withSession (s .device) (session None (s .device .«last_reset»)))
+    (s .flash) (s .«data»)
