@@ -2,26 +2,26 @@
 -- of its blocks every write is whole and is read back.
 use Prim.Native.Nat.{ℕ, suc, _+_, _*_, _<_, _≤_, _^_}
 use mathlib.Core.Path.{_≡_, refl, ap, sym, subst, _∙_}
-use mathlib.Core.Bool.{true, false}
-use mathlib.Core.List.{List, []}
+use mathlib.Core.Bool.{Bool, true, false}
+use mathlib.Core.List.{List, [], _++_, append-assoc}
 use native.Mathlib.Omega.{arith}
 use lib.ListN.{length, take, drop, getD, replicate}
-use lib.Seq.{length-take-le}
+use lib.Seq.{length-take-le, take-at}
 use borrow.Author.Tests.{eq-eqb}
 use Rattle.promise.specs.Told.{Told, given, refused, number}
 use Rattle.promise.specs.Rules.{pick, unless, orRefuse}
 use Rattle.promise.specs.Bytes.{AreBytes, field, front}
 use Rattle.promise.specs.Over.{over}
+use Rattle.promise.proofs.Over.{field-same}
 use Rattle.promise.specs.Run.{tells, endTold, End, Ran, ran}
 use Rattle.protocol_bytes.specs.Signature.{same}
 use Rattle.protocol_bytes.specs.Sector.{sectorSize}
 use Rattle.protocol_codes.specs.declared.CommandCode.{CommandCode}
-use Rattle.protocol_codes.specs.declared.CommandCode.the-variants.{WriteLBA, EraseLBA, EraseForce}
 use Rattle.protocol_codes.specs.declared.Direction.the-variants.{Out}
 use Rattle.protocol_codes.specs.declared.Status as status
 use Rattle.protocol_codes.specs.declared.Status.the-variants.{SUCCESS, FAILED}
 use Rattle.protocol.specs.CommandBytes.{BlockFits}
-use Rattle.protocol.specs.Commands.{sectorCommand, writeLbaCommand, eraseLbaCommand, eraseForceCommand}
+use Rattle.protocol.specs.Commands.{sectorCommand, readLbaCommand, writeLbaCommand}
 use Rattle.protocol.specs.declared.CommandBlock.{CommandBlock}
 use Rattle.operation_finish.specs.Reply.{Reply, nothing, moved}
 use Rattle.operation_finish.specs.Transfer as transfer
@@ -33,7 +33,7 @@ use Rattle.operation.specs.declared.steps.Operation.the-variants as operation
 use Rattle.mock_base.specs.Flash.{fitsIn}
 use Rattle.mock_base.specs.declared.cells.Variety.{Variety}
 use Rattle.mock_base.specs.declared.cells.Variety.the-variants.{First, Nor}
-use Rattle.mock_base.proofs.Fitting.{fits-sectors, whole-sectors}
+use Rattle.mock_base.proofs.Fitting.{fits-sectors, sectors-fit, whole-sectors}
 use Rattle.mock_table.specs.Turn.{hasCode, isErase, isOut, done}
 use Rattle.mock_table.specs.Ways.{storedBy, movedBy}
 use Rattle.mock_table.specs.Table.{rangeOf, writeIoTurn}
@@ -49,15 +49,16 @@ use Rattle.mock.specs.Nor.{DiffersAt}
 use Rattle.mock.proofs.Nor.{differ-at, failed-same}
 use Rattle.run_turn.specs.Turn.{UsbState, usbState}
 use Rattle.run_operation.specs.declared.UsbRun.{UsbRun}
-use Rattle.run_operation.specs.Run.{sectorData}
+use Rattle.run_operation.specs.Run.{sectorData, wholeBudget}
 use Rattle.run_operation.specs.Answers.{answerEnd, RunMeets}
 use Rattle.theorems.specs.Runs.{operationRun, rearmed}
-use Rattle.theorems.specs.Standing.{Standing}
+use Rattle.theorems.specs.Standing.{Standing, AtCommand}
 use Rattle.theorems.specs.Told.{byStatus}
 use Rattle.theorems.proofs.BetweenRuns.{operation-stands}
 use Rattle.theorems.proofs.FromStart.{done-at-once-whole}
 use Rattle.theorems.proofs.FromData.{write-answered-whole}
-use Rattle.theorems.proofs.OperationEnds.{sector-fits, nor-write-ends}
+use Rattle.theorems.proofs.OperationEnds.{sector-fits, nor-write-ends, read-ends}
+use Rattle.theorems.proofs.SectorsLand.{read-lands}
 
 -- a write of sectors that are in the flash, at a head of either variety
 module _ (v : Variety) (device : MockState) (flash bytes : List ℕ) (store sectors : ℕ) (stands : Standing v device flash store sectors) (tag : ℕ) (small : tag < 256 ^ 4)
@@ -90,3 +91,174 @@ module _ (v : Variety) (device : MockState) (flash bytes : List ℕ) (store sect
         ap (λ (r : Ran Reply UsbState). r .state .flash) whole,
         ap (λ (r : Ran Reply UsbState). r .state .device .«current_command») whole,
       )
+
+-- .. at a head with NOR flash
+module _ (device : MockState) (flash bytes : List ℕ) (store sectors : ℕ) (stands : Standing Nor device flash store sectors) (tag : ℕ) (small : tag < 256 ^ 4)
+    (first count : ℕ) (low : first < 256 ^ 4) (few : count < 256 ^ 2) (some : 0 < count) (enough : count * sectorSize ≤ length bytes)
+    (fits : fitsIn sectors first count ≡ true) where
+  abbrev at : ℕ
+  at = first * sectorSize
+
+  abbrev wanted : List ℕ
+  wanted = take (count * sectorSize) bytes
+
+  abbrev cells : List ℕ
+  cells = programmed wanted (drop at flash)
+
+  abbrev its-run : Ran Reply UsbState
+  its-run = operationRun kind.Write (writeLbaCommand tag first count) device flash bytes store
+
+  ended : its-run .end ≡ tells (byStatus (cellsTold wanted (drop at flash)) (given (moved (transfer.whole (count * sectorSize)))))
+  ended =
+      nor-write-ends Nor device flash bytes store sectors stands tag small first count low few some enough refl
+      ∙ ap (λ (b : Bool). tells (pick b (byStatus (cellsTold wanted (drop at flash)) (given (moved (transfer.whole (count * sectorSize))))) (refused 57 []))) fits
+
+  left : its-run .state .flash ≡ over at cells flash
+  unfolding storedBy flashAfter
+  left =
+      write-run Nor device flash bytes store sectors stands tag small first count low few some enough fits .3
+      ∙ ap (λ (x : Variety). flashAfter (storedBy x (rangeOf (writeLbaCommand tag first count))) wanted flash) (stands .own)
+
+  in-flash : at + length cells ≤ length flash
+  in-flash =
+      let long = length-programmed wanted (drop at flash) in
+      let size = length-take-le (count * sectorSize) bytes enough in
+      omega (arith, long, size, fits-sectors sectors first count fits, whole-sectors (length flash) sectors (stands .legal) .0)
+
+  byte-there : (i : ℕ) → i < length wanted → getD (its-run .state .flash) (at + i) 0 ≡ getD cells i 0
+  byte-there i h =
+      ap (λ (l : List ℕ). getD l (at + i) 0) left ∙ byte-inside at cells flash in-flash i (omega (arith, length-programmed wanted (drop at flash)))
+
+  by-status : (pending : status.Status) → tells (byStatus pending (given (moved (transfer.whole (count * sectorSize))))) ≡ tells (refused 15 []) → pending ≡ FAILED
+  unfolding byStatus
+  by-status SUCCESS e = absurd (let z : _≡_ {A = ℕ} 0 1 = cc in omega arith)
+  by-status FAILED e = refl
+
+  -- 15 EXACTLY where some byte is not the one asked; and whatever the end, four steps were counted, the operation starts again at its command, each byte
+  -- is old AND new, all else of the flash as it was, and the head has no transaction
+  pub cells-refuse-exactly : (DiffersAt at wanted (its-run .state .flash) → its-run .end ≡ tells (refused 15 []))
+      × (its-run .end ≡ tells (refused 15 []) → DiffersAt at wanted (its-run .state .flash))
+  unfolding byStatus cellsTold
+  cells-refuse-exactly = (
+    (λ d.
+    let failed : cellsTold wanted (drop at flash) ≡ FAILED =
+    tells-failed wanted (drop at flash) (λ same. d .other (byte-there (d .place) (d .among) ∙ ap (λ (l : List ℕ). getD l (d .place) 0) same)) in
+    ended ∙ ap (λ (p : status.Status). tells (byStatus p (given (moved (transfer.whole (count * sectorSize)))))) failed),
+    (λ e.
+    let failed : cellsTold wanted (drop at flash) ≡ FAILED = by-status (cellsTold wanted (drop at flash)) (sym ended ∙ e) in
+    let d = differ-at cells wanted (length-programmed wanted (drop at flash)) (failed-same (same cells wanted) failed) in
+    record { place = d .0; among = d .1; other = λ f. d .2 (sym (byte-there (d .0) (d .1)) ∙ f) }),
+  )
+
+  -- for any caller of the runs
+  pub nor-write-leaves : (r : UsbRun) (after leaves : List ℕ) → RunMeets r after leaves its-run
+      → (r .steps ≡ 4) × (r .operation .next ≡ operation.CommandBlock) × (after ≡ over at cells flash) × (r .device .«current_command» ≡ None)
+  nor-write-leaves r after leaves m =
+      let w = write-run Nor device flash bytes store sectors stands tag small first count low few some enough fits in (
+        m .steps ∙ w .1,
+        ap (λ (s : UsbState). s .operation .next) (m .leaves) ∙ w .2,
+        ap (λ (s : UsbState). s .flash) (m .leaves) ∙ left,
+        ap (λ (s : UsbState). s .device .«current_command») (m .leaves) ∙ w .4,
+      )
+
+  pub nor-write-15 : (r : UsbRun) (after leaves : List ℕ) → RunMeets r after leaves its-run → DiffersAt at wanted after → answerEnd (r .answer) (r .beside) ≡ tells (refused 15 [])
+  nor-write-15 r after leaves m d =
+      m .tells ∙ cells-refuse-exactly .0 (subst (DiffersAt at wanted) (ap (λ (s : UsbState). s .flash) (m .leaves)) d)
+
+-- an erase that is taken
+module _ (device : MockState) (flash bytes : List ℕ) (store sectors : ℕ) (stands : Standing Nor device flash store sectors) (tag : ℕ) (small : tag < 256 ^ 4)
+    (first count : ℕ) (low : first < 256 ^ 4) (few : count < 256 ^ 2) (code : CommandCode)
+    (takes : Erases Nor (device .config .«block_size_sectors») sectors (sectorCommand tag 0 Out code first count)) where
+  abbrev erasing : CommandBlock
+  erasing = sectorCommand tag 0 Out code first count
+
+  abbrev erase-run : Ran Reply UsbState
+  erase-run = operationRun kind.Nothing erasing device flash bytes store
+
+  -- ERASED. Its sectors are 0xFF, and all else of the flash is as it was
+  pub erased-by-run : (erase-run .end ≡ tells (given nothing)) × (erase-run .state .flash ≡ over (first * sectorSize) (replicate (count * sectorSize) erased) flash)
+  unfolding sectorData replyBy byStatus pendingAfter flashAfter done
+  erased-by-run =
+      let block = device .config .«block_size_sectors» in
+      let block-fits : BlockFits erasing = record { tag = small; transfer = omega arith; address = low; count = few } in
+      let row = subst (λ (x : Variety). Erases x block sectors erasing) (sym (stands .own)) takes in
+      let whole = done-at-once-whole kind.Nothing erasing Nor device flash bytes store sectors stands block-fits (omega arith) SUCCESS (device .«last_reset») (effect.Fill (rangeOf erasing)) refl
+      (erases-fill (device .variety) block (device .«last_reset») sectors erasing row) refl in
+      (ap (λ (r : Ran Reply UsbState). r .end) whole, ap (λ (r : Ran Reply UsbState). r .state .flash) whole)
+
+  abbrev erased-device : MockState
+  erased-device = erase-run .state .device
+
+  abbrev erased-flash : List ℕ
+  erased-flash = erase-run .state .flash
+
+  still-stands : Standing Nor erased-device erased-flash store sectors
+  still-stands = operation-stands Nor device flash sectors (fresh kind.Nothing erasing) bytes store stands
+
+  -- WHOLE. A write inside it, of bytes, is told whole, and leaves what was asked
+  module _ (lent : List ℕ) (tag₁ : ℕ) (small₁ : tag₁ < 256 ^ 4) (from n : ℕ) (some : 0 < n) (begins : first ≤ from) (ends : from + n ≤ first + count) (enough : n * sectorSize ≤ length lent)
+      (are : AreBytes (take (n * sectorSize) lent)) where
+    abbrev write-after : Ran Reply UsbState
+    write-after = operationRun kind.Write (writeLbaCommand tag₁ from n) erased-device erased-flash lent store
+
+    in-range : fitsIn sectors from n ≡ true
+    in-range = sectors-fit sectors from n (omega (arith, fits-sectors sectors first count (takes .within .fits)))
+
+    from-low : from < 256 ^ 4
+    from-low =
+        let whole = whole-sectors (length flash) sectors (stands .legal) in
+        omega (arith, whole .1, fits-sectors sectors first count (takes .within .fits))
+
+    success : cellsTold (take (n * sectorSize) lent) (drop (from * sectorSize) erased-flash) ≡ SUCCESS
+    success =
+        let size = length-take-le (n * sectorSize) lent enough in
+        let whole = whole-sectors (length flash) sectors (stands .legal) in
+        let fit = fits-sectors sectors first count (takes .within .fits) in
+        ap (λ (l : List ℕ). cellsTold (take (n * sectorSize) lent) (drop (from * sectorSize) l)) (erased-by-run .1)
+        ∙ taken-after-erase (first * sectorSize) (count * sectorSize) (from * sectorSize) (take (n * sectorSize) lent) flash (omega (arith, whole .0, fit)) (omega arith) (omega (arith, size)) are
+
+    pub write-after-erase : (write-after .end ≡ tells (given (moved (transfer.whole (n * sectorSize)))))
+        × (write-after .state .flash ≡ over (from * sectorSize) (take (n * sectorSize) lent) erased-flash)
+    unfolding byStatus
+    write-after-erase = (
+      ended erased-device erased-flash lent store sectors still-stands tag₁ small₁ from n from-low (omega arith) some enough in-range
+          ∙ ap (λ (p : status.Status). tells (byStatus p (given (moved (transfer.whole (n * sectorSize)))))) success,
+      left erased-device erased-flash lent store sectors still-stands tag₁ small₁ from n from-low (omega arith) some enough in-range
+          ∙ ap (λ (l : List ℕ). over (from * sectorSize) l erased-flash) (told-success (take (n * sectorSize) lent) (drop (from * sectorSize) erased-flash) success),
+    )
+
+    -- READ BACK. And a read of those sectors then gives these bytes
+    module _ (room : List ℕ) (tag₂ : ℕ) (small₂ : tag₂ < 256 ^ 4) (space : n * sectorSize ≤ length room) where
+      abbrev read-after : Ran Reply UsbState
+      read-after = operationRun kind.Read (readLbaCommand tag₂ from n) (write-after .state .device) (write-after .state .flash) room store
+
+      read-stands : Standing Nor (write-after .state .device) (write-after .state .flash) store sectors
+      read-stands = operation-stands Nor erased-device erased-flash sectors (fresh kind.Write (writeLbaCommand tag₁ from n)) lent store still-stands
+
+      read-whole : read-after .end ≡ tells (given (moved (transfer.whole (n * sectorSize))))
+      read-whole =
+          read-ends Nor (write-after .state .device) (write-after .state .flash) room store sectors read-stands tag₂ small₂ from n from-low (omega arith) some space
+          ∙ ap (λ (b : Bool). tells (pick b (given (moved (transfer.whole (n * sectorSize)))) (refused 57 []))) in-range
+
+      pub read-back : (read-after .end ≡ tells (given (moved (transfer.whole (n * sectorSize))))) × (take (n * sectorSize) (read-after .state .«data») ≡ take (n * sectorSize) lent)
+      read-back =
+          let s = usbState (fresh kind.Read (readLbaCommand tag₂ from n)) (write-after .state .device) (write-after .state .flash) room in
+          let size : length (take (n * sectorSize) lent) ≡ n * sectorSize = length-take-le (n * sectorSize) lent enough in
+          let block-fits : BlockFits (readLbaCommand tag₂ from n) = record { tag = small₂; transfer = omega arith; address = from-low; count = omega arith } in
+          let at-command : AtCommand s = record { here = refl; none = read-stands .none; fits = block-fits; long = λ z. omega arith } in
+          let landed = read-lands s store wholeBudget (moved (transfer.whole (n * sectorSize))) at-command refl refl read-whole .1 in
+          let at = from * sectorSize in
+          let fit = fits-sectors sectors from n in-range in
+          let erased-whole = whole-sectors (length erased-flash) sectors (still-stands .legal) in
+          let inside : at + length (take (n * sectorSize) lent) ≤ length erased-flash = omega (arith, size, erased-whole .0, fit) in
+          let there : field at (n * sectorSize) (write-after .state .flash) ≡ take (n * sectorSize) lent =
+          ap (field at (n * sectorSize)) (write-after-erase .1)
+          ∙ ap (λ (k : ℕ). field at k (over at (take (n * sectorSize) lent) erased-flash)) (sym size)
+          ∙ field-same at (take (n * sectorSize) lent) erased-flash inside in
+          let sent = take (n * sectorSize) lent in
+          let held = take (n * sectorSize) room in
+          let behind = drop (length (front sent held)) room in (
+            read-whole,
+            ap (take (n * sectorSize)) (landed ∙ ap (λ (l : List ℕ). front (front l held) room) there ∙ append-assoc sent (drop (length sent) held) behind)
+                ∙ take-at sent (drop (length sent) held ++ behind) (n * sectorSize) size,
+          )
