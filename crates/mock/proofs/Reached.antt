@@ -42,12 +42,12 @@ use Rattle.mock_table.specs.declared.session.CommandState.the-variants.{None, I
 use Rattle.mock_table.specs.declared.session.LastReset.{LastReset}
 use Rattle.mock_table.specs.declared.session.LastReset.the-variants as reset
 use Rattle.mock_table.specs.declared.session.Session.{Session}
-use Rattle.mock_table.specs.declared.outcome.Effect.{Effect}
-use Rattle.mock_table.specs.declared.outcome.Effect.the-variants.{Nothing, Fill, Store, Program, Supply, Reply}
-use Rattle.mock_table.proofs.FirstVariety.{NoProgram, write-first, read-first}
+use Rattle.mock_table.specs.declared.outcome.Effect.the-variants.{Fill, Reply}
+use Rattle.mock_table.proofs.FirstVariety.{write-first, read-first}
 use Rattle.mock_table.specs.declared.outcome.ReplyKind.{ReplyKind}
 use Rattle.mock_table.specs.declared.outcome.ReplyKind.the-variants as reply
 use Rattle.mock_effects.specs.Effects.{flashAfter, pendingAfter}
+use Rattle.mock_effects.proofs.Frames.{settled}
 use Rattle.mock_effects.specs.Steps.{failed, pend, writeStepOf, writeStepBy, readStepOf, readStepBy}
 use Rattle.mock.specs.Device.{Call, CreateMeets, MockMeets, freshState, created, sessionOf, withAreas, controlRules, writeBulk, readBulk, writeControl}
 use Rattle.mock.specs.Made.{Made, creates, writes, reads, controls, FromBlock, OfBlock, OfVariety, OfOpcode, Reached}
@@ -197,16 +197,7 @@ read-of (refused number values) v s config flash buffer of = of
 
 -- the first variety leaves no FAILED status
 
-settled : (effect : Effect) (bytes flash : List ℕ) → NoProgram effect → pendingAfter effect bytes flash ≡ SUCCESS
-unfolding NoProgram pendingAfter
-settled Nothing bytes flash h = refl
-settled (Fill range) bytes flash h = refl
-settled (Store range) bytes flash h = refl
-settled (Program range) bytes flash h = absurd h
-settled (Supply range) bytes flash h = refl
-settled (Reply kind) bytes flash h = refl
-
-write-quiet : (t : Told ℕ) (block : ℕ) (s : Session) (flash bytes : List ℕ) → Quiet (s .«current_command»)
+pub write-quiet : (t : Told ℕ) (block : ℕ) (s : Session) (flash bytes : List ℕ) → Quiet (s .«current_command»)
     → Quiet (writeStepOf t First block s flash bytes .next .«current_command»)
 unfolding writeStepOf pend
 write-quiet (given sectors) block s flash bytes quiet =
@@ -215,7 +206,7 @@ write-quiet (given sectors) block s flash bytes quiet =
     (sym (settled (writeTurn First block s sectors bytes .effect) bytes flash (first .stores))) (first .quiet)
 write-quiet (refused number values) block s flash bytes quiet = quiet
 
-read-quiet : (t : Told ℕ) (s : Session) (config : MockDeviceConfig) (flash buffer : List ℕ) → Quiet (s .«current_command»)
+pub read-quiet : (t : Told ℕ) (s : Session) (config : MockDeviceConfig) (flash buffer : List ℕ) → Quiet (s .«current_command»)
     → Quiet (readStepOf t First s config flash buffer .next .«current_command»)
 unfolding readStepOf
 read-quiet (given sectors) s config flash buffer quiet = read-first 0 (s .«last_reset») sectors (length buffer) (s .«current_command») .quiet

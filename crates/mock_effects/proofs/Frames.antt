@@ -19,6 +19,7 @@ use Rattle.mock_table.specs.declared.session.Session.{Session}
 use Rattle.mock_table.specs.declared.outcome.Effect.{Effect}
 use Rattle.mock_table.specs.declared.outcome.Effect.the-variants.{Nothing, Fill, Store, Program, Supply, Reply}
 use Rattle.mock_table.proofs.Sane.{write-sane, read-sane}
+use Rattle.mock_table.proofs.FirstVariety.{NoProgram}
 use Rattle.mock_table.proofs.Own.{Within, commandOf, write-own}
 use Rattle.protocol_codes.specs.declared.Status as pending
 use Rattle.protocol_codes.specs.declared.Status.the-variants.{SUCCESS, FAILED}
@@ -131,3 +132,13 @@ write-long-of (given sectors) v block s flash bytes size =
 pub write-long : (v : Variety) (block : ℕ) (s : Session) (flash bytes : List ℕ) → length (writeStepBy v block s flash bytes .leaves) ≡ length flash
 unfolding writeStepBy
 write-long v block s flash bytes = write-long-of (flashSectors (length flash)) v block s flash bytes refl
+
+-- an effect that programs nothing answers success
+pub settled : (effect : Effect) (bytes flash : List ℕ) → NoProgram effect → pendingAfter effect bytes flash ≡ SUCCESS
+unfolding NoProgram pendingAfter
+settled Nothing bytes flash h = refl
+settled (Fill range) bytes flash h = refl
+settled (Store range) bytes flash h = refl
+settled (Program range) bytes flash h = absurd h
+settled (Supply range) bytes flash h = refl
+settled (Reply kind) bytes flash h = refl

@@ -80,7 +80,7 @@ unfolding dealNext
 next-text block t true e = rw e
 next-text block t false e = rw e
 
-lines-told : (blocks : List (List ℕ)) (t : Table) → dealBlocks blocks t .text ≡ linesBy lineText blocks t
+pub lines-told : (blocks : List (List ℕ)) (t : Table) → dealBlocks blocks t .text ≡ linesBy lineText blocks t
 unfolding dealBlocks linesBy
 lines-told [] t = refl
 lines-told (block ∷ blocks) t = ap₂ (λ (a b : List ℕ). a ++ b) (next-text block t (t .deck .«is_over») refl) (lines-told blocks (dealNext block t .leaves))

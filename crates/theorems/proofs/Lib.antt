@@ -63,6 +63,7 @@ pub mod FromStart
 pub mod FromData
 pub mod OperationEnds
 pub mod NorRuns
+pub mod AsBefore
 pub mod LinkedSectors
 pub mod OperationTold
 pub mod CommandsAreBytes
@@ -77,6 +78,7 @@ pub mod ByRequest
 pub mod BetweenBlocks
 pub mod DeckRefusals
 pub mod DeckNeverShort
+pub mod LinesAsBefore
 pub mod BlockNumbers
 pub mod AnyChunks
 pub mod DeckLines

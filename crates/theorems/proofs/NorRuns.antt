@@ -141,13 +141,13 @@ module _ (device : MockState) (flash bytes : List ℕ) (store sectors : ℕ) (st
   unfolding byStatus cellsTold
   cells-refuse-exactly = (
     (λ d.
-    let failed : cellsTold wanted (drop at flash) ≡ FAILED =
-    tells-failed wanted (drop at flash) (λ same. d .other (byte-there (d .place) (d .among) ∙ ap (λ (l : List ℕ). getD l (d .place) 0) same)) in
-    ended ∙ ap (λ (p : status.Status). tells (byStatus p (given (moved (transfer.whole (count * sectorSize)))))) failed),
+        let failed : cellsTold wanted (drop at flash) ≡ FAILED =
+        tells-failed wanted (drop at flash) (λ same. d .other (byte-there (d .place) (d .among) ∙ ap (λ (l : List ℕ). getD l (d .place) 0) same)) in
+        ended ∙ ap (λ (p : status.Status). tells (byStatus p (given (moved (transfer.whole (count * sectorSize)))))) failed),
     (λ e.
-    let failed : cellsTold wanted (drop at flash) ≡ FAILED = by-status (cellsTold wanted (drop at flash)) (sym ended ∙ e) in
-    let d = differ-at cells wanted (length-programmed wanted (drop at flash)) (failed-same (same cells wanted) failed) in
-    record { place = d .0; among = d .1; other = λ f. d .2 (sym (byte-there (d .0) (d .1)) ∙ f) }),
+        let failed : cellsTold wanted (drop at flash) ≡ FAILED = by-status (cellsTold wanted (drop at flash)) (sym ended ∙ e) in
+        let d = differ-at cells wanted (length-programmed wanted (drop at flash)) (failed-same (same cells wanted) failed) in
+        record { place = d .0; among = d .1; other = λ f. d .2 (sym (byte-there (d .0) (d .1)) ∙ f) }),
   )
 
   -- for any caller of the runs

@@ -10,6 +10,8 @@ pub mod Runs
 pub mod Told
 pub mod Standing
 pub mod Deck
+pub mod Before
+pub mod BeforeDeck
 pub mod Resumed
 pub mod OnStandIns
 pub mod Chunks
