@@ -35,6 +35,7 @@ use replay_lines::names::BWR;
 use replay_lines::names::CTL;
 use replay_lines::names::DVC;
 use replay_lines::names::DVD;
+use replay_lines::names::DVN;
 
 // The current device: whether there is one, its record, and the lengths of its flash and store, which stand in buffers of their own.
 pub struct Device {
@@ -107,14 +108,37 @@ fn told_of(answer: MockAnswer) -> Told {
     }
 }
 
-fn created(made: MockStep, flash: usize) -> Stood {
-    let told = told_of(made.answer);
-    let is_there = told.number == 0;
-    with_answer(plain(told), device_of(is_there, made.state, flash))
+// A block size of 0 is told, and the device is there all the same.
+fn is_made(number: u64) -> bool {
+    match number {
+        0 | 62 => true,
+        _ => false,
+    }
 }
 
-fn started(config: MockDeviceConfig, flash: &[u8], n: usize, store: &[u8], m: usize) -> Stood {
-    let made = MockState::new(config, between(flash, 0, n), between(store, 0, m));
+fn created(made: MockStep, flash: usize) -> Stood {
+    let told = told_of(made.answer);
+    with_answer(
+        plain(told),
+        device_of(is_made(told.number), made.state, flash),
+    )
+}
+
+fn made_by(call: u64, config: MockDeviceConfig, flash: &[u8], store: &[u8]) -> MockStep {
+    if call == DVN {
+        return MockState::new_nor(config, flash, store);
+    }
+    MockState::new(config, flash, store)
+}
+
+fn started(asked: Asked, config: MockDeviceConfig, flash: &[u8], n: usize, store: &[u8]) -> Stood {
+    let m = asked.a as usize;
+    let made = made_by(
+        asked.call,
+        config,
+        between(flash, 0, n),
+        between(store, 0, m),
+    );
     created(made, n)
 }
 
@@ -122,13 +146,7 @@ fn started(config: MockDeviceConfig, flash: &[u8], n: usize, store: &[u8], m: us
 fn default(asked: Asked, flash: &mut [u8], store: &[u8]) -> Stood {
     let n = MockDeviceConfig::default_sectors() * 512;
     fill(flash, n, 255);
-    started(
-        MockDeviceConfig::default(),
-        flash,
-        n,
-        store,
-        asked.a as usize,
-    )
+    started(asked, MockDeviceConfig::default(), flash, n, store)
 }
 
 fn five(bytes: &[u8]) -> [u8; 5] {
@@ -158,16 +176,16 @@ fn config_of(block_size_sectors: u16, bytes: &[u8]) -> MockDeviceConfig {
     }
 }
 
-// `dvc`
+// `dvc`, `dvn`
 fn configure(asked: Asked, bytes: &[u8], flash: &mut [u8], store: &[u8]) -> Stood {
     let given = between(bytes, FLASH, bytes.len());
     copy(given, flash);
     started(
+        asked,
         config_of(as_u16(asked.b), bytes),
         flash,
         given.len(),
         store,
-        asked.a as usize,
     )
 }
 
@@ -274,7 +292,7 @@ pub fn answer(
 ) -> Stood {
     let call = asked.call;
     match call {
-        DVD | DVC => start(asked, bytes, flash, store),
+        DVD | DVC | DVN => start(asked, bytes, flash, store),
         _ => {
             if !device.is_there || !asked.ok {
                 return with_answer(plain(outside()), device);

@@ -29,6 +29,7 @@ use crate::names::CWR;
 use crate::names::DIR;
 use crate::names::DVC;
 use crate::names::DVD;
+use crate::names::DVN;
 use crate::names::ERA;
 use crate::names::ERF;
 use crate::names::FID;
@@ -49,6 +50,7 @@ use crate::names::SWR;
 use crate::names::UPL;
 use crate::names::URN;
 use crate::names::WRL;
+use crate::names::has_configuration;
 use crate::names::has_room;
 
 // the most of the current upload's image, and of an image whose list is asked for
@@ -90,7 +92,7 @@ fn of_call(call: u64) -> Wanted {
         SEC => Wanted(U64, 0, 0, 0, 0),
         SWR => Wanted(U32, U32, U8, 0, 0),
         DVD => Wanted(LEN, 0, 0, 0, 0),
-        DVC => Wanted(LEN, U16, 0, 0, LEN),
+        DVC | DVN => Wanted(LEN, U16, 0, 0, LEN),
         CTL => Wanted(U8, U8, U16, U16, LEN),
         ARE => Wanted(U16, 0, 0, 0, 0),
         RUN | URN => Wanted(U32, 0, 0, 0, 0),
@@ -202,7 +204,7 @@ fn array(line: &[u8], before: Token, into: &mut [u8], at: usize, n: u64) -> Toke
 
 // Past CHIP FLASHID CAPABILITY EXTRA, one behind the other.
 fn past_arrays(line: &[u8], before: Token, call: u64, into: &mut [u8]) -> Token {
-    if call != DVC {
+    if !has_configuration(call) {
         return before;
     }
     let chip = array(line, before, into, 0, 16);
@@ -212,7 +214,7 @@ fn past_arrays(line: &[u8], before: Token, call: u64, into: &mut [u8]) -> Token 
 }
 
 fn start_of(call: u64) -> usize {
-    if call == DVC { FLASH } else { 0 }
+    if has_configuration(call) { FLASH } else { 0 }
 }
 
 fn past_data(line: &[u8], before: Token, most: u64, into: &mut [u8], at: usize) -> Token {

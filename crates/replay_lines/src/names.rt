@@ -55,6 +55,8 @@ pub const DVD: u64 = 0x647664;
 
 pub const DVC: u64 = 0x647663;
 
+pub const DVN: u64 = 0x64766e;
+
 pub const BWR: u64 = 0x627772;
 
 pub const BRD: u64 = 0x627264;
@@ -82,6 +84,14 @@ pub const DCK: u64 = 0x64636b;
 pub const BLK: u64 = 0x626c6b;
 
 pub const DEV: u64 = 0x646576;
+
+// A device's CONFIGURATION.
+pub fn has_configuration(call: u64) -> bool {
+    match call {
+        DVC | DVN => true,
+        _ => false,
+    }
+}
 
 // The room, which is OUTLEN bytes of FILL before the call.
 pub fn has_room(call: u64) -> bool {

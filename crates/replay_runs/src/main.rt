@@ -1,4 +1,4 @@
-// Answers the kinds `operations`, `device` and `runs` of the language of cases (differential/LANGUAGE.md): a line in, a line out.
+// Answers the kinds `operations`, `device`, `runs` and `nor` of the language of cases (differential/LANGUAGE.md): a line in, a line out.
 mod names;
 
 use names::has_device;

@@ -4,6 +4,7 @@ use replay_lines::names::BWR;
 use replay_lines::names::CTL;
 use replay_lines::names::DVC;
 use replay_lines::names::DVD;
+use replay_lines::names::DVN;
 use replay_lines::names::GIV;
 use replay_lines::names::RUN;
 use replay_lines::names::STP;
@@ -28,7 +29,7 @@ pub(crate) fn has_own(call: u64) -> bool {
 // The device, where there is one.
 pub(crate) fn has_device(call: u64) -> bool {
     match call {
-        DVD | DVC | BWR | BRD | CTL | RUN | URN => true,
+        DVD | DVC | DVN | BWR | BRD | CTL | RUN | URN => true,
         _ => false,
     }
 }

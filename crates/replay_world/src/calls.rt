@@ -12,6 +12,7 @@ use replay_lines::names::BWR;
 use replay_lines::names::CTL;
 use replay_lines::names::DVC;
 use replay_lines::names::DVD;
+use replay_lines::names::DVN;
 use replay_lines::names::GIV;
 use replay_lines::names::LST;
 use replay_lines::names::OPN;
@@ -37,7 +38,7 @@ enum About {
 fn about_of(name: u64) -> About {
     match name {
         OPN | STP | GIV => About::Operation,
-        DVD | DVC | BWR | BRD | CTL | ARE | LST => About::Device,
+        DVD | DVC | DVN | BWR | BRD | CTL | ARE | LST => About::Device,
         UPL | UST => About::Upload,
         RUN | URN => About::Run,
         _ => About::Nothing,
