@@ -143,7 +143,8 @@ fn nothing(before: Token) -> Token {
     }
 }
 
-fn argument(line: &[u8], before: Token, most: u64) -> Token {
+// A number of at most `most`, or 0 where there is none to read.
+pub fn argument(line: &[u8], before: Token, most: u64) -> Token {
     if most == 0 {
         nothing(before)
     } else {

@@ -26,6 +26,18 @@ fn pair(high: u8, low: u8) -> u8 {
     high % 16 * 16 + low % 16
 }
 
+// A byte as two digits of hex.
+pub fn spelled_byte(line: &[u8], before: Token) -> Token {
+    let space = gap(line, before);
+    let high = nibble_at(line, space.at);
+    let low = nibble_at(line, after(space.at, 1));
+    Token {
+        value: pair(high, low) as u64,
+        at: after(space.at, 2),
+        ok: space.ok & ((high | low) < 16),
+    }
+}
+
 fn spelled(line: &[u8], start: Token, into: &mut [u8]) -> Token {
     let mut at = start.at;
     let mut n = 0;

@@ -52,6 +52,29 @@ pub fn call(line: &[u8]) -> Token {
     letters(line, 0, true)
 }
 
+fn with_letter(word: u64, letter: u8) -> u64 {
+    word % 72057594037927936 * 256 + letter as u64
+}
+
+// The lower-case letters that the line begins with, as one number: of more than eight the last eight.
+pub fn word(line: &[u8]) -> Token {
+    let mut value: u64 = 0;
+    let mut at = 0;
+    while at < line.len() {
+        let letter = line[at];
+        if std::num::wrapping_sub_u8(letter, b'a') > 25 {
+            break;
+        }
+        value = with_letter(value, letter);
+        at += 1;
+    }
+    Token {
+        value,
+        at,
+        ok: true,
+    }
+}
+
 // Past the one space that stands before every token but the first.
 pub fn gap(line: &[u8], before: Token) -> Token {
     let at = before.at;
