@@ -1,17 +1,18 @@
 -- A head with NOR flash, for any caller of the device's calls.
 use Prim.Native.Nat.{ℕ, zero, suc, _+_, _*_, _/_, _%_, _≤_, _<_}
-use mathlib.Core.Path.{_≡_, refl, ap, sym, subst, _∙_}
+use mathlib.Core.Path.{_≡_, refl, ap, ap₂, sym, subst, _∙_}
 use mathlib.Core.Bool.{Bool, true, false, not}
 use mathlib.Core.Logic.{_⊎_, inl, inr, ⊎-elim}
 use mathlib.Core.List.{List, [], _∷_}
 use native.Mathlib.Omega.{arith}
 use lib.Bits.{bitAnd, and-self}
 use lib.Dec.{eqb, ltb}
-use lib.ListN.{length, drop, getD}
+use lib.ListN.{length, drop, getD, length-drop}
+use lib.Seq.{getD-drop}
 use borrow.Author.Tests.{eqb-true, eq-eqb}
 use Rattle.promise.specs.Told.{Told, given, refused, number, andThen}
 use Rattle.promise.specs.Rules.{pick, unless, orRefuse}
-use Rattle.promise.specs.Bytes.{field, front}
+use Rattle.promise.specs.Bytes.{field, front, AreBytes}
 use Rattle.promise.specs.Over.{over}
 use Rattle.promise.proofs.Over.{field-same}
 use Rattle.promise.proofs.Outcome.{by-test, on-test, either-way}
@@ -38,17 +39,19 @@ use Rattle.mock_table.specs.declared.session.CommandState.{CommandState}
 use Rattle.mock_table.specs.declared.session.CommandState.the-variants.{None, IO, Status}
 use Rattle.mock_table.specs.declared.session.LastReset.{LastReset}
 use Rattle.mock_table.specs.declared.session.Session.{Session}
+use Rattle.mock_table.specs.declared.outcome.Effect.{Effect}
 use Rattle.mock_table.specs.declared.outcome.Effect.the-variants.{Reply}
+use Rattle.mock_table.proofs.Sane.{write-sane}
 use Rattle.mock_table.specs.declared.outcome.ReplyKind.the-variants as reply
 use Rattle.mock_table.proofs.Touches.{write-touches, splits-63}
-use Rattle.mock_effects.specs.Effects.{programmed, cellsTold, flashAfter, pendingAfter, replyBytes, bufferAfter}
+use Rattle.mock_effects.specs.Effects.{erased, programmed, cellsTold, flashAfter, pendingAfter, replyBytes, bufferAfter}
 use Rattle.mock_effects.specs.Steps.{pend, writeStepOf, writeStepBy, readStepOf, readStepBy}
 use Rattle.mock_effects.specs.Cells.{GainsNone}
-use Rattle.mock_effects.proofs.Cells.{and-through, byte-inside, write-keeps}
-use Rattle.mock_effects.proofs.Programming.{length-programmed, told-success, tells-success, told-failed, tells-failed}
+use Rattle.mock_effects.proofs.Cells.{and-through, byte-inside, write-keeps, whole-block, tail-not-erased}
+use Rattle.mock_effects.proofs.Programming.{length-programmed, told-success, tells-success, tells-failed, takes-bits, bits-taken, erased-takes}
 use Rattle.mock_effects.proofs.ReadBack.{stored}
-use Rattle.mock.specs.Device.{Call, MockMeets, CreateMeets, sessionOf, blockRules, createTold, created, controlRules, writeBulk, readBulk, writeControl}
-use Rattle.mock.specs.Nor.{DiffersAt, ErasedBy, Through, no-call, a-write, a-read, a-control}
+use Rattle.mock.specs.Device.{Call, MockMeets, CreateMeets, sessionOf, bulk, blockRules, createTold, created, isUpload, controlRules, writeBulk, readBulk, writeControl}
+use Rattle.mock.specs.Nor.{like, DiffersAt, ErasedBy, BlockErased, Through, no-call, a-write, a-read, a-control}
 use Rattle.mock.specs.declared.device.MockState.{MockState}
 use Rattle.mock.specs.declared.device.MockStep.{MockStep}
 
@@ -61,6 +64,22 @@ bits-by-erase s flash bytes after r nor meets i =
     let leaves : after ≡ writeStepBy Nor block (sessionOf s) flash bytes .leaves =
     meets .leaves ∙ ap (λ (x : Variety). writeStepBy x block (sessionOf s) flash bytes .leaves) nor in
     subst (λ (l : List ℕ). GainsNone flash l i ⊎ ErasedBy s flash bytes i) (sym leaves) (write-keeps block (sessionOf s) flash bytes i)
+
+-- .. and the whole block of that byte lies in it
+pub bits-by-block : (s : MockState) (flash bytes after : List ℕ) (r : MockStep) → s .variety ≡ Nor → MockMeets r after (writeBulk s flash bytes) → (i : ℕ)
+    → GainsNone flash after i ⊎ BlockErased s flash bytes i
+bits-by-block s flash bytes after r nor meets i =
+    ⊎-elim (λ h. inl h)
+    (λ e. inr (record { erase = e; whole = whole-block (s .config .«block_size_sectors») (length flash / sectorSize) (commandIn (s .«current_command») bytes) i e }))
+    (bits-by-erase s flash bytes after r nor meets i)
+
+-- so a byte behind the last whole block gains none
+pub tail-gains-none : (s : MockState) (flash bytes after : List ℕ) (r : MockStep) → s .variety ≡ Nor → MockMeets r after (writeBulk s flash bytes) → (i : ℕ)
+    → length flash / sectorSize / s .config .«block_size_sectors» * s .config .«block_size_sectors» ≤ i / sectorSize → GainsNone flash after i
+tail-gains-none s flash bytes after r nor meets i behind =
+    ⊎-elim (λ h. h)
+    (λ e. absurd (tail-not-erased (s .config .«block_size_sectors») (length flash / sectorSize) (commandIn (s .«current_command») bytes) i behind e))
+    (bits-by-erase s flash bytes after r nor meets i)
 
 -- no call makes another variety of a head
 control-own : (s : MockState) (type request value index : ℕ) (bytes store : List ℕ) → writeControl s type request value index bytes store .next .variety ≡ s .variety
@@ -168,6 +187,22 @@ module _ (s : MockState) (flash bytes after : List ℕ) (r : MockStep) (c : Comm
     (λ e. old-and-new ∙ ap (λ (l : List ℕ). over at l flash) (told-success bytes (drop at flash) (told-of SUCCESS e))),
   )
 
+  -- .. and that goes by the cells as they were: success exactly if no byte asked has a bit that its cell had not, as no byte has where all cells are 0xFF
+  pub success-by-bits : (((i : ℕ) → i < length bytes → bitAnd (getD flash (at + i) 0) (getD bytes i 0) ≡ getD bytes i 0) → r .state .«current_command» ≡ Status c SUCCESS)
+      × (r .state .«current_command» ≡ Status c SUCCESS → (i : ℕ) → i < length bytes → bitAnd (getD flash (at + i) 0) (getD bytes i 0) ≡ getD bytes i 0)
+  success-by-bits =
+      let room : length bytes ≤ length (drop at flash) = simp length-drop (omega (arith, put .1)) in (
+        (λ all. by-cells SUCCESS (tells-success bytes (drop at flash)
+            (takes-bits bytes (drop at flash) room (λ i h. ap (λ (x : ℕ). bitAnd x (getD bytes i 0)) (getD-drop at flash i 0) ∙ all i h)))),
+        (λ e i h. ap (λ (x : ℕ). bitAnd x (getD bytes i 0)) (sym (getD-drop at flash i 0))
+            ∙ bits-taken bytes (drop at flash) room (told-success bytes (drop at flash) (told-of SUCCESS e)) i h),
+      )
+
+  pub erased-cells-take : ((i : ℕ) → i < length bytes → getD flash (at + i) 0 ≡ erased) → AreBytes bytes → (r .state .«current_command» ≡ Status c SUCCESS) × (after ≡ over at bytes flash)
+  erased-cells-take clear are =
+      let success = success-by-bits .0 (λ i h. ap (λ (x : ℕ). bitAnd x (getD bytes i 0)) (clear i h) ∙ erased-takes (getD bytes i 0) (are i)) in
+      (success, success-exactly .1 success)
+
 -- the status that is pending is what a read of 13 bytes gets, with the command's tag and residue 0, at either variety; and then there is no transaction
 module _ (s : MockState) (flash buffer after : List ℕ) (r : MockStep) (c : CommandBlock) (pending : status.Status) (awaits : s .«current_command» ≡ Status c pending)
     (sectors : ℕ) (legal : flashSectors (length flash) ≡ given sectors) (long : length buffer ≡ 13) (meets : MockMeets r after (readBulk s flash buffer)) where
@@ -189,7 +224,7 @@ module _ (s : MockState) (flash buffer after : List ℕ) (r : MockStep) (c : Com
   )
 
 -- 63 EXACTLY: of a head with NOR flash, for a command that is an erase within the flash and splits a block; then nothing is erased, and the transaction
--- has ended
+-- has ended (`unaligned-leaves`)
 splits-nor : (v : Variety) (block : ℕ) (c : CommandBlock) → splits v block c ≡ true → v ≡ Nor
 unfolding splits
 splits-nor First block c e = absurd (let z : _≡_ {A = ℕ} 0 1 = cc in omega arith)
@@ -231,6 +266,18 @@ module _ (s : MockState) (flash bytes after : List ℕ) (r : MockStep) (sectors 
         (splits-nor (s .variety) block (found .0) (found .2 .parts), found)),
   )
 
+  pub unaligned-leaves : r .answer .result ≡ Refused UnalignedErase → (after ≡ flash) × (r .state .«current_command» ≡ None)
+  unfolding resultTold errorValues writeBulk writeStepBy writeStepOf flashAfter pendingAfter pend
+  unaligned-leaves e =
+      let told : turn .told ≡ refused 63 [] = sym told-by ∙ sym (meets .tells .tells) ∙ ap (λ (x : MockResult). resultTold x (r .answer .signature)) e in
+      let ended = write-sane (s .variety) block (sessionOf s) sectors bytes .ends 63 [] told in (
+        meets .leaves ∙ ap (λ (t : Told ℕ). writeStepOf t (s .variety) block (sessionOf s) flash bytes .leaves) legal
+            ∙ ap (λ (x : Effect). flashAfter x bytes flash) (ended .1),
+        ap (λ (x : MockState). x .«current_command») (meets .next)
+            ∙ ap (λ (t : Told ℕ). writeStepOf t (s .variety) block (sessionOf s) flash bytes .next .«current_command») legal
+            ∙ ap₂ (λ (p : status.Status) (x : Session). pend p (x .«current_command»)) (ap (λ (x : Effect). pendingAfter x bytes flash) (ended .1)) (ended .0),
+      )
+
 -- 62 EXACTLY: of a head with NOR flash that is lent a flash of whole sectors, at creation
 size-refusals : (n k : ℕ) (values : List ℕ) → flashSectors n ≡ refused k values → k ≡ 62 → ⊥
 unfolding flashSectors flashRules orRefuse number
@@ -261,3 +308,29 @@ module _ (config : MockDeviceConfig) (n m : ℕ) (r : MockStep) (meets : CreateM
         sym (result-from (r .answer .result) (r .answer .signature)) ∙ ap resultFrom (meets .tells .tells ∙ told)),
     (λ e. told-62 (flashSectors n) refl (sym (meets .tells .tells) ∙ ap (λ (x : MockResult). resultTold x (r .answer .signature)) e)),
   )
+
+-- 60 AND 61 keep everything, a status that is pending too, at either variety
+module _ (s : MockState) (flash : List ℕ) (n : ℕ) (values : List ℕ) (size : flashSectors (length flash) ≡ refused n values) (r : MockStep) (after : List ℕ) where
+  pub write-kept : (bytes : List ℕ) → MockMeets r after (writeBulk s flash bytes) → (r .state ≡ s) × (after ≡ flash)
+  unfolding writeBulk writeStepBy writeStepOf
+  write-kept bytes meets = (
+    meets .next ∙ ap (λ (t : Told ℕ). bulk s (writeStepOf t (s .variety) (s .config .«block_size_sectors») (sessionOf s) flash bytes) .next) size,
+    meets .leaves ∙ ap (λ (t : Told ℕ). writeStepOf t (s .variety) (s .config .«block_size_sectors») (sessionOf s) flash bytes .leaves) size,
+  )
+
+  pub read-kept : (buffer : List ℕ) → MockMeets r after (readBulk s flash buffer) → (r .state ≡ s) × (after ≡ buffer)
+  unfolding readBulk readStepBy readStepOf
+  read-kept buffer meets = (
+    meets .next ∙ ap (λ (t : Told ℕ). bulk s (readStepOf t (s .variety) (sessionOf s) (s .config) flash buffer) .next) size,
+    meets .leaves ∙ ap (λ (t : Told ℕ). readStepOf t (s .variety) (sessionOf s) (s .config) flash buffer .leaves) size,
+  )
+
+-- CONTROL WRITES go by neither variety nor transaction: what is told, the areas and the store are the same whatever they are
+pub control-alike : (s : MockState) (v : Variety) (state : CommandState) (type request value index : ℕ) (bytes store : List ℕ)
+    → (writeControl (like s v state) type request value index bytes store .told ≡ writeControl s type request value index bytes store .told)
+    × (writeControl (like s v state) type request value index bytes store .next ≡ like (writeControl s type request value index bytes store .next) v state)
+    × (writeControl (like s v state) type request value index bytes store .leaves ≡ writeControl s type request value index bytes store .leaves)
+unfolding writeControl controlRules orRefuse
+control-alike s v state type request value index bytes store =
+    on-test (not (eqb (length store) (s .«store_length»))) (λ t. (rw t refl, rw t refl, rw t refl))
+    (λ t. on-test (not (isUpload type request value)) (λ u. (rw (t, u) refl, rw (t, u) refl, rw (t, u) refl)) (λ u. (rw (t, u) refl, rw (t, u) refl, rw (t, u) refl)))

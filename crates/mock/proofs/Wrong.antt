@@ -1,7 +1,7 @@
 -- Programs that the contracts rule out, each at a named input: no proof can exist for them.
 use Prim.Native.Nat.{ℕ, suc}
 use mathlib.Core.Path.{_≡_, ap, sym, _∙_}
-use mathlib.Core.List.{List, [], _∷_}
+use mathlib.Core.List.{List, [], _∷_, _++_}
 use native.Mathlib.Omega.{arith}
 use lib.ListN.{getD, replicate}
 use Rattle.promise.specs.Told.{refused, number, andThen}
@@ -13,7 +13,10 @@ use Rattle.protocol_status.specs.StatusBytes.{statusBytes}
 use Rattle.protocol_bytes.specs.Signature.{same}
 use Rattle.protocol_codes.specs.declared.ResetOpcode.the-variants.{Reset, Maskrom}
 use Rattle.protocol_codes.specs.declared.Status.the-variants.{SUCCESS, FAILED}
-use Rattle.protocol.specs.Commands.{writeLbaCommand}
+use Rattle.protocol_codes.specs.declared.StorageIndex.the-variants.{Emmc}
+use Rattle.protocol.specs.CommandBytes.{commandBytes}
+use Rattle.protocol.specs.Commands.{writeLbaCommand, switchCommand}
+use Rattle.mock_effects.proofs.Wrong as effects
 use Rattle.protocol.specs.declared.CommandBlock.{CommandBlock}
 use Rattle.mock_areas.specs.Slots.{freshAreas, passes, firstAt, heldAt, place, areaFound}
 use Rattle.mock_areas.specs.Append.{heldBy, appendRules, appendedAt, appendStep}
@@ -33,7 +36,7 @@ use Rattle.mock_base.specs.declared.cells.Variety.the-variants.{First, Nor}
 use Rattle.mock_base.specs.declared.config.MockDeviceConfig.{MockDeviceConfig}
 use Rattle.mock_effects.specs.Effects.{programmed, cellsTold, flashAfter, pendingAfter, replyBytes, bufferAfter}
 use Rattle.mock_effects.specs.Steps.{pend, failed, writeStepOf, writeStepBy, readStepOf, readStepBy}
-use Rattle.mock.specs.Device.{MockMeets, CreateMeets, blockRules, createTold, created, freshState, writeBulk, readBulk, isUpload, controlRules, writeControl, maskromArea}
+use Rattle.mock.specs.Device.{sessionOf, MockMeets, CreateMeets, blockRules, createTold, created, freshState, writeBulk, readBulk, isUpload, controlRules, writeControl, maskromArea}
 use Rattle.mock.specs.declared.device.MockState.{MockState}
 use Rattle.mock.specs.declared.device.MockStep.{MockStep}
 
@@ -82,6 +85,10 @@ store = replicate 72 0
 abbrev command : CommandBlock
 command = writeLbaCommand 1 0 1
 
+-- a switch to another storage than 4
+abbrev elsewhere : CommandBlock
+elsewhere = switchCommand 1 Emmc
+
 module _ (config : MockDeviceConfig) where
   -- a device with a store of 72 bytes, whose second slot is held by area 5 with three bytes
   abbrev device : CommandState → LastReset → MockState
@@ -119,6 +126,11 @@ module _ (config : MockDeviceConfig) where
   unfolding created createTold number andThen flashSectors flashRules orRefuse
   block-before-length r e meets = let z : _≡_ {A = ℕ} 62 60 = sym e ∙ ap number (meets .tells .tells) in omega arith
 
+  -- .. and before the number of its sectors
+  pub block-before-sectors : (r : MockStep) → told r ≡ 62 → CreateMeets r (created Nor config 33554944 72) → ⊥
+  unfolding created createTold number andThen flashSectors flashRules orRefuse
+  block-before-sectors r e meets = let z : _≡_ {A = ℕ} 62 61 = sym e ∙ ap number (meets .tells .tells) in omega arith
+
   module _ (zero : config .«block_size_sectors» ≡ 0) where
     told-62 : createTold Nor (config .«block_size_sectors») 512 ≡ refused 62 []
     unfolding createTold blockRules andThen flashSectors flashRules orRefuse
@@ -139,6 +151,20 @@ module _ (config : MockDeviceConfig) where
     pub stores-as-the-first : (r : MockStep) → MockMeets r ones (writeBulk (nor-device (IO command) last) flash ones) → ⊥
     unfolding writeBulk writeStepBy writeStepOf flashSectors flashRules orRefuse writeRow writeIoTurn sectorTurn isOut hasCode fitsIn done movedBy storedBy flashAfter programmed over
     stores-as-the-first r meets = let z : _≡_ {A = ℕ} 1 0 = ap (λ (l : List ℕ). getD l 0 0) (meets .leaves) in omega arith
+
+    -- the success that applying nothing answers put over the FAILED of a switch to another storage
+    pub switch-forgiven : (r : MockStep) (after : List ℕ) → r .state .«current_command» ≡ Status elsewhere SUCCESS
+        → MockMeets r after (writeBulk (nor-device None last) flash (commandBytes elsewhere ++ replicate 7 0)) → ⊥
+    unfolding writeBulk
+    switch-forgiven r after e meets =
+        effects.switch-forgiven last (config .«block_size_sectors») (record { answer = r .answer; session = sessionOf (r .state) }) after
+        (ap pendingNumber e) (record { tells = meets .tells; next = ap sessionOf (meets .next); leaves = meets .leaves })
+
+    -- 60 drops a status that is pending
+    pub pending-dropped : (r : MockStep) (after : List ℕ) (n : ℕ) → waits (r .state) ≡ 0
+        → MockMeets r after (readBulk (nor-device (Status command FAILED) last) (replicate 513 0) (replicate 13 0)) → ⊥
+    unfolding readBulk readStepBy readStepOf flashSectors flashRules orRefuse
+    pending-dropped r after n e meets = let z : _≡_ {A = ℕ} 0 2 = sym e ∙ ap waits (meets .next) in omega arith
 
     -- FAILED kept from the record that is handed back
     pub failed-not-kept : (r : MockStep) (after : List ℕ) → r .state .«current_command» ≡ Status command SUCCESS

@@ -4,7 +4,7 @@ use mathlib.Core.Path.{_≡_, refl, ap, sym, subst, _∙_}
 use mathlib.Core.Bool.{Bool, true, false, not}
 use mathlib.Core.Logic.{_⊎_, inl, inr}
 use mathlib.Core.List.{List, _++_}
-use native.Mathlib.Nat.{div-add-mod' as div-add-mod′, le-div-iff-mul-le, div-lt-iff-lt-mul, mul-le-mul-right, add-mul, suc-mul}
+use native.Mathlib.Nat.{div-add-mod' as div-add-mod′, le-div-iff-mul-le, div-lt-iff-lt-mul, mul-le-mul-right, lt-div-mul-add, add-mul, suc-mul}
 use native.Mathlib.Omega.{arith}
 use lib.Arith.{bin-ind}
 use lib.Bits.{bitAnd, and-step, and-self}
@@ -20,6 +20,7 @@ use Rattle.promise.proofs.Outcome.{on-test}
 use Rattle.protocol_codes.specs.declared.Status.the-variants.{SUCCESS}
 use Rattle.protocol_bytes.specs.Sector.{sectorSize}
 use Rattle.protocol.specs.declared.CommandBlock.{CommandBlock}
+use Rattle.mock_base.proofs.Fitting.{fits-sectors}
 use Rattle.mock_base.specs.declared.cells.Variety.the-variants.{Nor}
 use Rattle.mock_base.specs.Flash.{flashSectors}
 use Rattle.mock_base.specs.declared.range.FlashRange.{FlashRange}
@@ -204,10 +205,18 @@ multiple n block some e =
     let all = div-add-mod′ n block in
     omega (arith, none, all)
 
-pub whole-block : (block sectors : ℕ) (read-as : Told CommandBlock) (i : ℕ) → 0 < block → (e : ErasedPlace block sectors read-as i)
+no-block : (sectors : ℕ) (read-as : Told CommandBlock) (i : ℕ) → ErasedPlace 0 sectors read-as i → ⊥
+unfolding splits isMultiple
+no-block sectors read-as i e =
+    let c = e .command in
+    let both = both-true (isMultiple (c .«cd_address») 0) (isMultiple (c .«cd_length») 0) (e .erases .whole) in
+    omega (arith, eqb-true (c .«cd_length») 0 (both .1), eqb-true (c .«cd_address») 0 (both .0), e .to)
+
+-- BLOCKS. The whole block of an erased byte lies in the erase; no byte is erased in blocks of 0
+some-block : (block sectors : ℕ) (read-as : Told CommandBlock) (i : ℕ) → 0 < block → (e : ErasedPlace block sectors read-as i)
     → (e .command .«cd_address» ≤ i / sectorSize / block * block) × (i / sectorSize / block * block + block ≤ e .command .«cd_address» + e .command .«cd_length»)
 unfolding splits
-whole-block block sectors read-as i some e =
+some-block block sectors read-as i some e =
     let c = e .command in
     let sector = i / sectorSize in
     let b = sector / block in
@@ -227,3 +236,23 @@ whole-block block sectors read-as i some e =
     let last : suc b * block ≡ b * block + block = suc-mul b block in
     let sum : (qa + qc) * block ≡ qa * block + qc * block = add-mul qa qc block in
     (omega (arith, begins, first), omega (arith, ends, last, sum, first, count))
+
+pub whole-block : (block sectors : ℕ) (read-as : Told CommandBlock) (i : ℕ) (e : ErasedPlace block sectors read-as i)
+    → (e .command .«cd_address» ≤ i / sectorSize / block * block) × (i / sectorSize / block * block + block ≤ e .command .«cd_address» + e .command .«cd_length»)
+whole-block zero sectors read-as i e = absurd (no-block sectors read-as i e)
+whole-block (suc block) sectors read-as i e = some-block (suc block) sectors read-as i (omega arith) e
+
+-- so no byte behind the last whole block of a flash is ever erased
+pub tail-not-erased : (block sectors : ℕ) (read-as : Told CommandBlock) (i : ℕ) → sectors / block * block ≤ i / sectorSize → ErasedPlace block sectors read-as i → ⊥
+tail-not-erased zero sectors read-as i behind e = no-block sectors read-as i e
+tail-not-erased (suc block) sectors read-as i behind e =
+    let b = i / sectorSize / suc block in
+    let whole = some-block (suc block) sectors read-as i (omega arith) e in
+    let inside = fits-sectors sectors (e .command .«cd_address») (e .command .«cd_length») (e .erases .within .fits) in
+    let next : suc b * suc block ≡ b * suc block + suc block = suc-mul b (suc block) in
+    let some : 0 < suc block = omega arith in
+    let all : suc b * suc block ≤ sectors = omega (arith, whole .1, inside, next) in
+    let last : suc b ≤ sectors / suc block = le-div-iff-mul-le some .1 all in
+    let more : i / sectorSize < b * suc block + suc block = lt-div-mul-add some in
+    let ends : suc b * suc block ≤ sectors / suc block * suc block = mul-le-mul-right (suc block) last in
+    omega (arith, ends, next, more, behind)

@@ -7,7 +7,7 @@ use native.Mathlib.Numerals.{add-one}
 use native.Mathlib.Omega.{arith}
 use lib.Bits.{bitAnd, and-comm, and-mask}
 use lib.ListN.{length, take, drop, set, getD, replicate, length-append, length-take, length-drop, drop-of-length-le}
-use lib.Seq.{drop-cons, set-at, getD-at, take-all, take-length}
+use lib.Seq.{drop-cons, set-at, getD-at, take-all, take-length, ext-getD}
 use borrow.Rule.Slice.PartMut.{putMid}
 use borrow.Author.Tests.{eq-eqb, ne-eqb}
 use Rattle.promise.specs.Rules.{pick}
@@ -131,16 +131,16 @@ module _ (bytes old : List ℕ) where
   unfolding cellsTold
   tells-failed h = ap (λ (b : Bool). pick b SUCCESS FAILED) (same-differs (programmed bytes old) bytes h)
 
--- erased cells take every byte
+-- an erased cell takes every byte
+pub erased-takes : (byte : ℕ) → byte < 256 → bitAnd erased byte ≡ byte
+erased-takes byte small = let low : byte % 2 ^ 8 ≡ byte = omega arith in and-comm erased byte ∙ and-mask byte 8 ∙ low
+
 pub erased-take : (n : ℕ) (bytes rest : List ℕ) → length bytes ≤ n → AreBytes bytes → programmed bytes (replicate n erased ++ rest) ≡ bytes
 unfolding programmed
 erased-take n [] rest fits are = refl
 erased-take zero (b ∷ bytes) rest fits are = absurd (omega arith)
 erased-take (suc n) (b ∷ bytes) rest fits are =
-    let small : b < 2 ^ 8 = are 0 in
-    let low : b % 2 ^ 8 ≡ b = omega arith in
-    let byte : bitAnd erased b ≡ b = and-comm erased b ∙ and-mask b 8 ∙ low in
-    ap₂ (λ (x : ℕ) (l : List ℕ). x ∷ l) byte (erased-take n bytes rest (omega arith) (λ i. are (suc i)))
+    ap₂ (λ (x : ℕ) (l : List ℕ). x ∷ l) (erased-takes b (are 0)) (erased-take n bytes rest (omega arith) (λ i. are (suc i)))
 
 -- and a cell gains no bit by a write
 pub bits-kept : (bytes old : List ℕ) (i : ℕ) → i < length bytes → i < length old → getD (programmed bytes old) i 0 ≡ bitAnd (getD old i 0) (getD bytes i 0)
@@ -149,3 +149,15 @@ bits-kept [] old i h k = absurd (omega arith)
 bits-kept (b ∷ bytes) [] i h k = absurd (omega arith)
 bits-kept (b ∷ bytes) (o ∷ old) zero h k = refl
 bits-kept (b ∷ bytes) (o ∷ old) (suc i) h k = bits-kept bytes old i (omega arith) (omega arith)
+
+-- TAKEN. The cells take all that is asked exactly if no byte asked has a bit that its cell has not
+pub takes-bits : (bytes old : List ℕ) → length bytes ≤ length old → ((i : ℕ) → i < length bytes → bitAnd (getD old i 0) (getD bytes i 0) ≡ getD bytes i 0)
+    → programmed bytes old ≡ bytes
+takes-bits bytes old fits all =
+    let long = length-programmed bytes old in
+    ext-getD 0 (programmed bytes old) bytes long
+    (λ i h. let here : i < length bytes = omega (arith, long) in bits-kept bytes old i here (omega arith) ∙ all i here)
+
+pub bits-taken : (bytes old : List ℕ) → length bytes ≤ length old → programmed bytes old ≡ bytes → (i : ℕ) → i < length bytes
+    → bitAnd (getD old i 0) (getD bytes i 0) ≡ getD bytes i 0
+bits-taken bytes old fits e i h = sym (bits-kept bytes old i h (omega arith)) ∙ ap (λ (l : List ℕ). getD l i 0) e

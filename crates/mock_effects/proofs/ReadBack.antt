@@ -25,24 +25,17 @@ use Rattle.mock_table.specs.declared.session.CommandState.the-variants.{None, I
 use Rattle.mock_table.specs.declared.session.Session.{Session}
 use Rattle.mock_table.proofs.Accepted.{write-accepted, read-accepted}
 use Rattle.mock_effects.specs.Effects.{programmed, flashAfter, pendingAfter, bufferAfter}
-use Rattle.mock_effects.specs.Steps.{failed, pend, pended, writeStepOf, writeStepBy, readStepOf, readStepBy}
+use Rattle.mock_effects.specs.Steps.{failed, pend, pended, writeStepOf, writeStepBy, readStepOf, readStepBy, writtenFlash, writtenStatus}
 use Rattle.mock_base.specs.declared.config.MockDeviceConfig.{MockDeviceConfig}
 use Rattle.mock_effects.proofs.Lengths.{taken}
 use Rattle.mock_effects.proofs.Programming.{told-success}
 
--- the bytes of a write of sector data, stored as the variety stores them over the command's sectors, and the status that is then pending
-abbrev pub stands : Variety → CommandBlock → List ℕ → List ℕ → List ℕ
-stands v c bytes flash = flashAfter (storedBy v (rangeOf c)) bytes flash
-
-abbrev pub told : Variety → CommandBlock → List ℕ → List ℕ → pending.Status
-told v c bytes flash = pendingAfter (storedBy v (rangeOf c)) bytes flash
-
 -- a write of sector data that was not refused: all of its sectors are in the flash
 pub record Stored (v : Variety) (c : CommandBlock) (flash bytes after : List ℕ) (next : CommandState) : Type 0 where
-  pub leaves : after ≡ stands v c bytes flash
+  pub leaves : after ≡ writtenFlash v c bytes flash
   pub inside : c .«cd_address» * sectorSize + length bytes ≤ length flash
   pub size : length bytes ≡ c .«cd_length» * sectorSize
-  pub pending : next ≡ Status c (told v c bytes flash)
+  pub pending : next ≡ Status c (writtenStatus v c bytes flash)
 
 pub pend-told : (status : pending.Status) (c : CommandBlock) → pend status (Status c SUCCESS) ≡ Status c status
 unfolding pend failed
@@ -62,7 +55,7 @@ stored-of (given sectors) v block s flash bytes c size e h =
       leaves = ap (λ (t : Turn). flashAfter (t .effect) bytes flash) (m .turn);
       inside = omega (arith, k .0, m .size);
       size = m .size;
-      pending = ap (λ (t : Turn). pend (pendingAfter (t .effect) bytes flash) (t .next .«current_command»)) (m .turn) ∙ pend-told (told v c bytes flash) c;
+      pending = ap (λ (t : Turn). pend (pendingAfter (t .effect) bytes flash) (t .next .«current_command»)) (m .turn) ∙ pend-told (writtenStatus v c bytes flash) c;
     }
 
 pub stored : (v : Variety) (block : ℕ) (s : Session) (flash bytes : List ℕ) (c : CommandBlock) → s .«current_command» ≡ IO c
@@ -72,8 +65,8 @@ unfolding writeStepBy
 stored v block s flash bytes c e h = stored-of (flashSectors (length flash)) v block s flash bytes c refl e h
 
 -- where success is pending, the bytes stand as asked; the first variety's always do
-pub as-asked : (v : Variety) (c : CommandBlock) (bytes flash : List ℕ) → told v c bytes flash ≡ SUCCESS
-    → stands v c bytes flash ≡ over (c .«cd_address» * sectorSize) bytes flash
+pub as-asked : (v : Variety) (c : CommandBlock) (bytes flash : List ℕ) → writtenStatus v c bytes flash ≡ SUCCESS
+    → writtenFlash v c bytes flash ≡ over (c .«cd_address» * sectorSize) bytes flash
 unfolding storedBy flashAfter pendingAfter
 as-asked First c bytes flash e = refl
 as-asked Nor c bytes flash e =
@@ -99,7 +92,7 @@ supplied v s config flash buffer c e code h = supplied-of (flashSectors (length 
 
 -- reading after writing gives what was written, where the write's status is success
 pub read-after-write : (v : Variety) (block : ℕ) (s t : Session) (config : MockDeviceConfig) (flash bytes buffer : List ℕ) (c d : CommandBlock)
-    → s .«current_command» ≡ IO c → writeStepBy v block s flash bytes .told ≡ given tt → told v c bytes flash ≡ SUCCESS
+    → s .«current_command» ≡ IO c → writeStepBy v block s flash bytes .told ≡ given tt → writtenStatus v c bytes flash ≡ SUCCESS
     → t .«current_command» ≡ IO d → d .«cd_code» ≡ ReadLBA → d .«cd_address» ≡ c .«cd_address» → d .«cd_length» ≡ c .«cd_length»
     → readStepBy v t config (writeStepBy v block s flash bytes .leaves) buffer .told ≡ given tt
     → readStepBy v t config (writeStepBy v block s flash bytes .leaves) buffer .leaves ≡ bytes

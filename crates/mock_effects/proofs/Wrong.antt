@@ -1,24 +1,27 @@
 -- Programs that the contracts rule out, each at a named input: no proof can exist for them.
 use Prim.Native.Nat.{ℕ, suc}
-use mathlib.Core.Path.{_≡_, ap, sym, _∙_}
-use mathlib.Core.List.{List, []}
+use mathlib.Core.Path.{_≡_, ap, sym, subst, _∙_}
+use mathlib.Core.List.{List, [], _++_}
 use native.Mathlib.Omega.{arith}
 use lib.ListN.{getD, replicate}
-use Rattle.promise.specs.Told.{number}
+use Rattle.promise.specs.Told.{Told, number}
 use Rattle.promise.specs.Rules.{orRefuse}
 use Rattle.promise.specs.Bytes.{lowFirst, highFirst}
 use Rattle.promise.specs.Over.{over}
 use Rattle.protocol_bytes.specs.Signature.{same}
 use Rattle.protocol_codes.specs.Numbers.{statusNumber}
 use Rattle.protocol_codes.specs.declared.Status.the-variants.{SUCCESS, FAILED}
-use Rattle.protocol.specs.Commands.{writeLbaCommand}
+use Rattle.protocol_codes.specs.declared.StorageIndex.the-variants.{Emmc}
+use Rattle.protocol.specs.CommandBytes.{commandBytes}
+use Rattle.protocol.specs.Commands.{writeLbaCommand, switchCommand}
+use Rattle.protocol.proofs.Trips.{reads-back}
 use Rattle.protocol.specs.declared.CommandBlock.{CommandBlock}
 use Rattle.protocol_status.specs.StatusBytes.{statusBytes}
 use Rattle.mock_base.specs.Flash.{flashRules, flashSectors, fitsIn}
 use Rattle.mock_base.specs.Told.{resultTold}
-use Rattle.mock_table.specs.Turn.{session, refuses, done, hasCode, isOut, replySize}
-use Rattle.mock_table.specs.Ways.{storedBy, movedBy}
-use Rattle.mock_table.specs.Table.{sectorTurn, writeIoTurn, writeRow, statusTurn, readRow}
+use Rattle.mock_table.specs.Turn.{session, refuses, done, hasCode, isErase, isOut, replySize}
+use Rattle.mock_table.specs.Ways.{storedBy, movedBy, switches, switched}
+use Rattle.mock_table.specs.Table.{sectorTurn, zeroLengthTurn, startTurn, writeIoTurn, writeRow, statusTurn, readRow}
 use Rattle.mock_table.specs.declared.session.CommandState.{CommandState}
 use Rattle.mock_table.specs.declared.session.CommandState.the-variants.{None, IO, Status}
 use Rattle.mock_table.specs.declared.session.LastReset.{LastReset}
@@ -27,7 +30,7 @@ use Rattle.mock_base.specs.declared.cells.Variety.{Variety}
 use Rattle.mock_base.specs.declared.cells.Variety.the-variants.{First, Nor}
 use Rattle.mock_base.specs.declared.config.MockDeviceConfig.{MockDeviceConfig}
 use Rattle.mock_effects.specs.Effects.{programmed, cellsTold, flashAfter, pendingAfter, replyBytes, bufferAfter}
-use Rattle.mock_effects.specs.Steps.{failed, pend, writeStepOf, writeStepBy, writeStep, readStepOf, readStepBy, readStep, StepMeets}
+use Rattle.mock_effects.specs.Steps.{Step, failed, pend, pended, writeStepOf, writeStepBy, writeStep, readStepOf, readStepBy, readStep, StepMeets}
 use Rattle.mock_effects.specs.declared.SessionStep.{SessionStep}
 
 -- what is told by number, and the transaction: 0 none, 1 awaiting data, 2 awaiting status
@@ -99,6 +102,21 @@ crossing = replicate 512 0xF3
 abbrev clearing : List ℕ
 clearing = replicate 512 0x03
 
+-- a switch to another storage than 4, and the call that begins by what was read
+abbrev elsewhere : CommandBlock
+elsewhere = switchCommand 1 Emmc
+
+abbrev block-of : CommandBlock → List ℕ
+block-of c = commandBytes c ++ replicate 7 0
+
+abbrev startedBy : ℕ → LastReset → Told CommandBlock → Step
+startedBy block last t =
+    record {
+      told = startTurn Nor block t last 1 .told;
+      next = pended (pendingAfter (startTurn Nor block t last 1 .effect) (block-of elsewhere) flash) (startTurn Nor block t last 1 .next);
+      leaves = flashAfter (startTurn Nor block t last 1 .effect) (block-of elsewhere) flash;
+    }
+
 -- the status that is pending, by number; 2 where none is
 abbrev pendingNumber : CommandState → ℕ
 pendingNumber None = 2
@@ -153,3 +171,17 @@ module _ (last : LastReset) (block : ℕ) where
         → StepMeets r after (readStepBy v (session (Status command FAILED) last) config flash (replicate 13 0)) → ⊥
     unfolding orRefuse readStepBy readStepOf flashSectors flashRules readRow statusTurn replySize done
     failed-kept r after n e meets = let z : suc n ≡ 0 = sym e ∙ ap waits (meets .next) in omega arith
+
+  -- `write_step_by`: the success that applying nothing answers put over the FAILED of a switch to another storage
+  pub switch-forgiven : (r : SessionStep) (after : List ℕ) → pends r ≡ 0 → StepMeets r after (writeStepBy Nor block (session None last) flash (block-of elsewhere)) → ⊥
+  unfolding writeStepBy writeStepOf flashSectors flashRules orRefuse writeRow startTurn zeroLengthTurn isErase hasCode switches switched done pendingAfter pend
+  switch-forgiven r after e meets =
+      let read = reads-back elsewhere (replicate 7 0) (record { tag = omega arith; transfer = omega arith; address = omega arith; count = omega arith }) (omega arith) in
+      let m = subst (λ (t : Told CommandBlock). StepMeets r after (startedBy block last t)) read meets in
+      let z : _≡_ {A = ℕ} 0 1 = sym e ∙ ap (λ (s : Session). pendingNumber (s .«current_command»)) (m .next) in omega arith
+
+  -- `read_step_by`: a residue beside FAILED
+  pub residue-beside-failed : (v : Variety) (config : MockDeviceConfig) (r : SessionStep) (after : List ℕ) → getD after 8 0 ≡ 1
+      → StepMeets r after (readStepBy v (session (Status command FAILED) last) config flash (replicate 13 0)) → ⊥
+  unfolding orRefuse readStepBy readStepOf flashSectors flashRules readRow statusTurn replySize done bufferAfter replyBytes statusBytes lowFirst highFirst
+  residue-beside-failed v config r after e meets = let z : _≡_ {A = ℕ} 1 0 = sym e ∙ ap (λ (l : List ℕ). getD l 8 0) (meets .leaves) in omega arith

@@ -6,7 +6,9 @@ use lib.ListN.{length}
 use Rattle.promise.specs.Told.{Told, given, refused}
 use Rattle.mock_base.specs.Told.{Answers}
 use Rattle.mock_base.specs.Flash.{flashSectors}
-use Rattle.mock_table.specs.Table.{writeTurn, readTurn}
+use Rattle.protocol.specs.declared.CommandBlock.{CommandBlock}
+use Rattle.mock_table.specs.Ways.{storedBy}
+use Rattle.mock_table.specs.Table.{rangeOf, writeTurn, readTurn}
 use Rattle.mock_table.specs.declared.session.CommandState.{CommandState}
 use Rattle.mock_table.specs.declared.session.Session.{Session}
 use Rattle.mock_effects.specs.Effects.{flashAfter, pendingAfter, bufferAfter}
@@ -66,6 +68,13 @@ readStepOf (given sectors) v s config flash buffer =
 
 unfoldable pub readStepBy : Variety → Session → MockDeviceConfig → List ℕ → List ℕ → Step
 readStepBy v s config flash buffer = readStepOf (flashSectors (length flash)) v s config flash buffer
+
+-- the flash after the data of a write was stored as the variety stores it, and the status that is then pending
+abbrev pub writtenFlash : Variety → CommandBlock → List ℕ → List ℕ → List ℕ
+writtenFlash v c bytes flash = flashAfter (storedBy v (rangeOf c)) bytes flash
+
+abbrev pub writtenStatus : Variety → CommandBlock → List ℕ → List ℕ → pending.Status
+writtenStatus v c bytes flash = pendingAfter (storedBy v (rangeOf c)) bytes flash
 
 -- of the first variety, which asks for no block size
 abbrev pub writeStep : Session → List ℕ → List ℕ → Step

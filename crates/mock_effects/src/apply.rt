@@ -131,7 +131,7 @@ fn reply(config: MockDeviceConfig, sectors: u32, kind: ReplyKind, data: &mut [u8
     }
 }
 
-// The status that the command which the effect is of is then told.
+// FAILED where the cells did not take what was asked, else SUCCESS.
 pub(crate) fn apply_to_flash(effect: Effect, flash: &mut [u8], data: &[u8]) -> Status
     requires { ⌜ EffectFits (length (now flash) / sectorSize) (length (now «data»)) effect ⌝ }
     ensures { λ r. ⌜ (r ≡ pendingAfter effect (now («data» .entry)) (now (flash .entry))) × (now (flash .exit) ≡ flashAfter effect (now («data» .entry)) (now (flash .entry))) ⌝ }

@@ -1,4 +1,4 @@
--- A sequence of calls over one session and one flash.
+-- A sequence of calls over one session and one flash, of the first variety.
 use Prim.Native.Nat.{ℕ}
 use mathlib.Core.Path.{_≡_}
 use mathlib.Core.List.{List, [], _∷_}

@@ -1,4 +1,4 @@
--- A sequence of calls as it happens: each call's answer, and the session, the flash and its buffer after it, are held to that call's own contract
+-- A sequence of calls as it happens, of the first variety: each call's answer, and the session, the flash and its buffer after it, are held to that call's own contract
 -- alone.
 use Prim.Native.Nat.{ℕ}
 use mathlib.Core.Path.{_≡_}

@@ -12,7 +12,7 @@ use Rattle.protocol_codes.specs.declared.CommandCode.the-variants.{WriteLBA}
 use Rattle.protocol_codes.specs.declared.StorageIndex.the-variants.{SpiNor, Emmc}
 use Rattle.protocol_codes.specs.declared.Status as pending
 use Rattle.protocol_codes.specs.declared.Status.the-variants.{SUCCESS, FAILED}
-use Rattle.protocol.specs.Commands.{sectorCommand, writeLbaCommand, chipInfoCommand, eraseLbaCommand, storageCommand, switchCommand}
+use Rattle.protocol.specs.Commands.{sectorCommand, writeLbaCommand, chipInfoCommand, eraseLbaCommand, eraseForceCommand, storageCommand, switchCommand}
 use Rattle.protocol.specs.CommandBytes.{commandBytes, readCommand, BlockFits}
 use Rattle.protocol.specs.declared.CommandBlock.{CommandBlock}
 use Rattle.protocol.proofs.Trips.{reads-back}
@@ -126,12 +126,28 @@ module _ (last : LastReset) where
       let m = begins Nor 64 last c (fits c (omega arith) (omega arith) (omega arith) (omega arith)) r meets in
       let z : _≡_ {A = ℕ} 0 63 = sym e ∙ ap number (m .tells .tells) in omega arith
 
-  -- the address alone looked at, or the count alone: 0 sectors at 1
+  -- the count alone looked at: 0 sectors at 1
   pub no-sectors-anywhere : (r : Outcome) → told r ≡ 0 → OutcomeMeets r (writeTurn Nor 64 (session None last) 128 (block-of (eraseLbaCommand 1 1 0))) → ⊥
   unfolding number orRefuse startTurn zeroLengthTurn isErase hasCode eraseTurn eraseRules fitsIn splits isMultiple refuses
   no-sectors-anywhere r e meets =
       let c = eraseLbaCommand 1 1 0 in
       let m = begins Nor 64 last c (fits c (omega arith) (omega arith) (omega arith) (omega arith)) r meets in
+      let z : _≡_ {A = ℕ} 0 63 = sym e ∙ ap number (m .tells .tells) in omega arith
+
+  -- the other code not held to blocks
+  pub part-of-a-block-by-force : (r : Outcome) → told r ≡ 0 → OutcomeMeets r (writeTurn Nor 64 (session None last) 128 (block-of (eraseForceCommand 1 64 1))) → ⊥
+  unfolding number orRefuse startTurn zeroLengthTurn isErase hasCode eraseTurn eraseRules fitsIn splits isMultiple refuses
+  part-of-a-block-by-force r e meets =
+      let c = eraseForceCommand 1 64 1 in
+      let m = begins Nor 64 last c (fits c (omega arith) (omega arith) (omega arith) (omega arith)) r meets in
+      let z : _≡_ {A = ℕ} 0 63 = sym e ∙ ap number (m .tells .tells) in omega arith
+
+  -- a head whose block size is 0 erases a sector
+  pub erased-without-blocks : (r : Outcome) → told r ≡ 0 → OutcomeMeets r (writeTurn Nor 0 (session None last) 128 (block-of (eraseLbaCommand 1 0 1))) → ⊥
+  unfolding number orRefuse startTurn zeroLengthTurn isErase hasCode eraseTurn eraseRules fitsIn splits isMultiple refuses
+  erased-without-blocks r e meets =
+      let c = eraseLbaCommand 1 0 1 in
+      let m = begins Nor 0 last c (fits c (omega arith) (omega arith) (omega arith) (omega arith)) r meets in
       let z : _≡_ {A = ℕ} 0 63 = sym e ∙ ap number (m .tells .tells) in omega arith
 
   -- the first variety's erases held to blocks
@@ -180,6 +196,11 @@ module _ (last : LastReset) where
   pub storage-refused : (r : Outcome) (n : ℕ) → told r ≡ suc n → OutcomeMeets r (readTurn Nor (session (IO (storageCommand 1)) last) 128 4) → ⊥
   unfolding number orRefuse readRow readIoTurn codeTurn replyTurn replySize isIn hasCode tellsStorage done
   storage-refused r n e meets = let z : 0 ≡ suc n = sym (ap number (meets .tells .tells)) ∙ e in omega arith
+
+  -- .. or given in another size
+  pub storage-of-any-size : (r : Outcome) → told r ≡ 0 → OutcomeMeets r (readTurn Nor (session (IO (storageCommand 1)) last) 128 5) → ⊥
+  unfolding number orRefuse readRow readIoTurn codeTurn replyTurn replySize isIn hasCode tellsStorage refuses
+  storage-of-any-size r e meets = let z : _≡_ {A = ℕ} 50 0 = sym (ap number (meets .tells .tells)) ∙ e in omega arith
 
   pub first-tells-storage : (r : Outcome) → told r ≡ 0 → OutcomeMeets r (readTurn First (session (IO (storageCommand 1)) last) 128 4) → ⊥
   unfolding number orRefuse readRow readIoTurn codeTurn isIn hasCode tellsStorage refuses

@@ -29,7 +29,7 @@ ghost use Rattle.run_turn.specs.Code.{turnAfter, whereDone, endedBy};
 pub enum Stop {
     // the operation's value, or 10 to 15
     Finished(FinishAnswer),
-    // 50 to 61, 65
+    // 50 to 63, 65
     Device(MockTransportError),
     // 20, which a run's own output is never too short for
     OutputTooShort,

@@ -1,11 +1,12 @@
--- The first variety is the stand-in as it stood before there was a second: every turn of the table, every effect and every bulk call, at every input.
+-- The first variety is the stand-in as it stood before there was a second: every turn of the table and every bulk call, at every input; of reads at every
+-- record that there was then, which is one with no FAILED status pending.
 use Prim.Native.Nat.{ℕ}
 use mathlib.Core.Path.{_≡_, refl, ap, ap₂, sym, subst, _∙_}
 use mathlib.Core.Bool.{not}
 use mathlib.Core.List.{List, [], _∷_}
 use lib.Dec.{eqb}
 use lib.ListN.{length}
-use Rattle.promise.specs.Told.{Told, given, refused}
+use Rattle.promise.specs.Told.{Told, given, refused, andThen}
 use Rattle.promise.specs.Rules.{pick, rule, orRefuse}
 use Rattle.promise.proofs.Outcome.{by-test, either-way}
 use Rattle.protocol_codes.specs.Numbers.{codeNumber}
@@ -35,9 +36,10 @@ use Rattle.mock_effects.specs.Effects.{flashAfter, pendingAfter, replyBytes, bu
 use Rattle.mock_effects.specs.Steps.{Step, pend, pended, writeStepOf, writeStepBy, readStepOf, readStepBy}
 use Rattle.mock_effects.proofs.Frames.{settled}
 use Rattle.mock.proofs.Reached.{write-quiet, read-quiet}
-use Rattle.mock.specs.Device.{Call, sessionOf, bulk, writeBulk, readBulk}
+use Rattle.mock.specs.Device.{Call, sessionOf, bulk, blockRules, createTold, created, writeBulk, readBulk}
 use Rattle.mock.specs.declared.device.MockState.{MockState}
 use Rattle.theorems.specs.Before as before
+use Rattle.theorems.specs.Before.{AsThen}
 
 -- THE TABLE
 
@@ -138,11 +140,20 @@ read-as-before s flash buffer own quiet =
     ap (λ (v : Variety). bulk s (readStepOf (flashSectors (length flash)) v (sessionOf s) (s .config) flash buffer)) own
     ∙ ap (bulk s) (read-step-as (flashSectors (length flash)) (sessionOf s) (s .config) flash buffer quiet)
 
--- a device of the first variety with no FAILED status pending, and every call keeps it so
-pub record AsThen (s : MockState) : Type 0 where
-  pub own : s .variety ≡ First
-  pub quiet : Quiet (s .«current_command»)
+-- .. the steps over a session alone, and the creation
+pub write-step-as-before : (block : ℕ) (s : Session) (flash bytes : List ℕ) → writeStepBy First block s flash bytes ≡ before.writeStep s flash bytes
+unfolding writeStepBy before.writeStep
+write-step-as-before block s flash bytes = write-step-as (flashSectors (length flash)) block s flash bytes
 
+pub read-step-as-before : (s : Session) (config : MockDeviceConfig) (flash buffer : List ℕ) → Quiet (s .«current_command») → readStepBy First s config flash buffer ≡ before.readStep s config flash buffer
+unfolding readStepBy before.readStep
+read-step-as-before s config flash buffer quiet = read-step-as (flashSectors (length flash)) s config flash buffer quiet
+
+pub created-as-before : (config : MockDeviceConfig) (flash store : ℕ) → created First config flash store .told ≡ andThen (flashSectors flash) (λ sectors. given tt)
+unfolding created createTold blockRules orRefuse
+created-as-before config flash store = refl
+
+-- every call keeps a device as those of then
 pub write-as-then : (s : MockState) (flash bytes : List ℕ) → AsThen s → AsThen (writeBulk s flash bytes .next)
 unfolding writeBulk writeStepBy
 write-as-then s flash bytes then =

@@ -58,7 +58,7 @@ module _ (sectors : ℕ) (h : Head) (ready : Ready First sectors h) where
   operated : (k : Kind) (c : CommandBlock) (bytes : List ℕ) → ends.Started (length bytes) k c → BenchTold (operate (fresh k c) bytes h .told)
   unfolding operate
   operated k c bytes started =
-      operation-numbered _ (told.first-operation-told (h .device) (h .flash) bytes (length (h .store)) sectors (ready .stands) k c (ready .sized) started)
+      operation-numbered _ (told.operation-told First (h .device) (h .flash) bytes (length (h .store)) sectors (ready .stands) k c (ready .sized) started)
 
   loaded : (area : ℕ) (checked : Bool) (image : List ℕ) → BenchTold (load area checked image h .told)
   unfolding loadOf

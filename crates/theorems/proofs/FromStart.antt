@@ -74,11 +74,14 @@ module _ (k : Kind) (c : CommandBlock) (v : Variety) (device : MockState) (flash
         unrefused (usbState (fresh k c) device flash bytes) store wholeBudget sectors (stands .legal) (stands .stored) enough
         ∙ ap (λ (w : Call). follow (wrote (usbState (commanded (fresh k c)) device flash bytes) w) (λ next. runs usbTurn 3 next)) taken
 
-    -- a command that is refused at once
-    pub refused-at-once : (number : ℕ) (values : List ℕ) → t .told ≡ refused number values → operationRun k c device flash bytes store .end ≡ tells (refused number values)
+    -- a command that is refused at once: one step, and nothing is sent behind it
+    pub refused-at-once-whole : (number : ℕ) (values : List ℕ) → t .told ≡ refused number values
+        → operationRun k c device flash bytes store ≡ ran (tells (refused number values)) 1 (commanded-by t)
     unfolding follow onward
-    refused-at-once number values e =
-        ap (λ (r : Ran Reply UsbState). r .end) begun ∙ ap (λ (x : Told Unit). follow (onward x (commanded-by t)) (λ next. runs usbTurn 3 next) .end) e
+    refused-at-once-whole number values e = begun ∙ ap (λ (x : Told Unit). follow (onward x (commanded-by t)) (λ next. runs usbTurn 3 next)) e
+
+    pub refused-at-once : (number : ℕ) (values : List ℕ) → t .told ≡ refused number values → operationRun k c device flash bytes store .end ≡ tells (refused number values)
+    refused-at-once number values e = ap (λ (r : Ran Reply UsbState). r .end) (refused-at-once-whole number values e)
 
   -- a command with no data that is done at once, and whose effect does not fail
   pub done-at-once-whole : (pending : status.Status) (reset : LastReset) (effect : Effect) → c .«transfer_length» ≡ 0

@@ -16,6 +16,8 @@
 -- and Rust is a whole transfer, `OperationTold` what any may be told, `CommandsAreBytes` that its command goes out as bytes, `OperationMakes` that
 -- the device's record is one that calls from a fresh start can make, `OperationAnswered` that every step and giving has an answer,
 -- `OperationHandedBack` that the operation's record is such a one.
+-- A head with NOR flash: `NorRuns` has what runs at it come to, `NorBits` that a byte gains no bit by a run that does not erase it. The first variety:
+-- `AsBefore` has that its calls are those from before there was a second, `LinesAsBefore` that runs, decks and lines are.
 -- A run that ended in 28: `CheckedRuns` has that it and the run that resumes it are one run, if its checks pass again, `OperationResumed` and
 -- `UploadResumed` that they do, for the runs that are called.
 -- A deck: `BenchStart` has the flash that a bench starts with, `ByRequest` that what holds of operations and uploads holds of blocks, `BetweenBlocks`
@@ -63,6 +65,7 @@ pub mod FromStart
 pub mod FromData
 pub mod OperationEnds
 pub mod NorRuns
+pub mod NorBits
 pub mod AsBefore
 pub mod LinkedSectors
 pub mod OperationTold

@@ -31,11 +31,12 @@ use Rattle.deck.specs.Bench.{nextTag, nextNumber}
 use Rattle.deck_line.specs.Line.{lineText}
 use Rattle.deck_chunk.specs.Deck.{Table, tableAfter, dealOf, dealNext, dealAll, blocksOf, deckStart, benchStore, benchLines}
 use Rattle.theorems.specs.Before as before
+use Rattle.theorems.specs.Before.{AsThen}
 use Rattle.theorems.specs.BeforeDeck.{runBy, operateBy, carryOutBy, dealAskedBy, dealtBy, leftBy, linesOver}
 use Rattle.theorems.specs.Chunks.{joined, WholeButLast, Deals}
 use Rattle.theorems.specs.Deck.{headOf, linesBy}
 use Rattle.theorems.proofs.AnyChunks.{any-chunks}
-use Rattle.theorems.proofs.AsBefore.{AsThen, write-as-before, read-as-before, write-as-then, read-as-then}
+use Rattle.theorems.proofs.AsBefore.{write-as-before, read-as-before, write-as-then, read-as-then}
 use Rattle.operation.specs.Record.{fresh}
 use Rattle.theorems.proofs.ByRequest.{by-request}
 use Rattle.theorems.proofs.DeckNeverShort.{lines-told}
@@ -202,7 +203,7 @@ unfolding linesBy linesOver
 lines-as [] t then = refl
 lines-as (block ∷ blocks) t then =
     let here : pick (t .deck .«is_over») [] (lineText (nextNumber (t .deck .bench)) (dealOf t block .told))
-        ≡ pick (t .deck .«is_over») [] (lineText (nextNumber (t .deck .bench)) (dealtBy before.usbTurn block t .told)) =
+    ≡ pick (t .deck .«is_over») [] (lineText (nextNumber (t .deck .bench)) (dealtBy before.usbTurn block t .told)) =
     ap (λ (d : Deal). pick (t .deck .«is_over») [] (lineText (nextNumber (t .deck .bench)) (d .told))) (dealt-as block t then) in
     let rest : linesBy lineText blocks (dealNext block t .leaves) ≡ linesOver before.usbTurn blocks (leftBy before.usbTurn block t) =
     lines-as blocks (dealNext block t .leaves) (left-keeps block t then (t .deck .«is_over») refl)

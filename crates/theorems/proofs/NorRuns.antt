@@ -5,8 +5,9 @@ use mathlib.Core.Path.{_≡_, refl, ap, sym, subst, _∙_}
 use mathlib.Core.Bool.{Bool, true, false}
 use mathlib.Core.List.{List, [], _++_, append-assoc}
 use native.Mathlib.Omega.{arith}
-use lib.ListN.{length, take, drop, getD, replicate}
-use lib.Seq.{length-take-le, take-at}
+use lib.Bits.{bitAnd}
+use lib.ListN.{length, take, drop, getD, replicate, length-drop}
+use lib.Seq.{length-take-le, take-at, getD-drop}
 use borrow.Author.Tests.{eq-eqb}
 use Rattle.promise.specs.Told.{Told, given, refused, number}
 use Rattle.promise.specs.Rules.{pick, unless, orRefuse}
@@ -30,21 +31,25 @@ use Rattle.operation_finish.specs.declared.Kind.the-variants as kind
 use Rattle.operation_finish.proofs.Cases.{sectors-whole}
 use Rattle.operation.specs.Record.{fresh, commandOut}
 use Rattle.operation.specs.declared.steps.Operation.the-variants as operation
-use Rattle.mock_base.specs.Flash.{fitsIn}
+use Rattle.mock_base.specs.Flash.{flashSectors, fitsIn}
+use Rattle.mock_base.specs.declared.config.MockDeviceConfig.{MockDeviceConfig}
 use Rattle.mock_base.specs.declared.cells.Variety.{Variety}
 use Rattle.mock_base.specs.declared.cells.Variety.the-variants.{First, Nor}
 use Rattle.mock_base.proofs.Fitting.{fits-sectors, sectors-fit, whole-sectors}
-use Rattle.mock_table.specs.Turn.{hasCode, isErase, isOut, done}
+use Rattle.mock_table.specs.Turn.{hasCode, isOut, refuses, done}
 use Rattle.mock_table.specs.Ways.{storedBy, movedBy}
 use Rattle.mock_table.specs.Table.{rangeOf, writeIoTurn}
-use Rattle.mock_table.specs.Erasing.{Erases}
+use Rattle.mock_table.specs.Erasing.{Erases, Splits}
 use Rattle.mock_table.specs.declared.session.CommandState.the-variants.{None, Status}
 use Rattle.mock_table.specs.declared.outcome.Effect.the-variants as effect
-use Rattle.mock_table.proofs.Touches.{erases-fill}
+use Rattle.mock_table.proofs.Touches.{erases-fill, splits-63}
 use Rattle.mock_effects.specs.Effects.{erased, programmed, cellsTold, flashAfter, pendingAfter}
-use Rattle.mock_effects.proofs.Programming.{length-programmed, told-success, tells-failed}
+use Rattle.mock_effects.proofs.Programming.{length-programmed, told-success, tells-success, tells-failed, takes-bits}
 use Rattle.mock_effects.proofs.Cells.{byte-inside, taken-after-erase}
+use Rattle.mock_effects.specs.Steps.{pend}
+use Rattle.mock.specs.Device.{CreateMeets, created, freshState}
 use Rattle.mock.specs.declared.device.MockState.{MockState}
+use Rattle.mock.specs.declared.device.MockStep.{MockStep}
 use Rattle.mock.specs.Nor.{DiffersAt}
 use Rattle.mock.proofs.Nor.{differ-at, failed-same}
 use Rattle.run_turn.specs.Turn.{UsbState, usbState}
@@ -55,7 +60,7 @@ use Rattle.theorems.specs.Runs.{operationRun, rearmed}
 use Rattle.theorems.specs.Standing.{Standing, AtCommand}
 use Rattle.theorems.specs.Told.{byStatus}
 use Rattle.theorems.proofs.BetweenRuns.{operation-stands}
-use Rattle.theorems.proofs.FromStart.{done-at-once-whole}
+use Rattle.theorems.proofs.FromStart.{refused-at-once-whole, done-at-once-whole}
 use Rattle.theorems.proofs.FromData.{write-answered-whole}
 use Rattle.theorems.proofs.OperationEnds.{sector-fits, nor-write-ends, read-ends}
 use Rattle.theorems.proofs.SectorsLand.{read-lands}
@@ -79,7 +84,7 @@ module _ (v : Variety) (device : MockState) (flash bytes : List ℕ) (store sect
   -- WRITTEN. Four steps; the end is what the cells told; the operation starts again at its command; the flash is as the variety stores; no transaction
   pub write-run : (run .end ≡ tells (byStatus pending (given (moved (transfer.whole (count * sectorSize)))))) × (run .steps ≡ 4)
       × (run .state .operation .next ≡ operation.CommandBlock) × (run .state .flash ≡ flashAfter (storedBy (device .variety) (rangeOf command)) asked flash)
-      × (run .state .device .«current_command» ≡ None)
+      × (run .state .device .«current_command» ≡ None) × (run .state .«data» ≡ bytes)
   unfolding sectorData writeIoTurn orRefuse hasCode isOut replyBy movedBy
   write-run =
       let block-fits : BlockFits command = record { tag = small; transfer = omega arith; address = low; count = few } in
@@ -90,6 +95,7 @@ module _ (v : Variety) (device : MockState) (flash bytes : List ℕ) (store sect
         ap (λ (r : Ran Reply UsbState). r .state .operation .next) whole,
         ap (λ (r : Ran Reply UsbState). r .state .flash) whole,
         ap (λ (r : Ran Reply UsbState). r .state .device .«current_command») whole,
+        ap (λ (r : Ran Reply UsbState). r .state .«data») whole,
       )
 
 -- .. at a head with NOR flash
@@ -150,20 +156,37 @@ module _ (device : MockState) (flash bytes : List ℕ) (store sectors : ℕ) (st
         record { place = d .0; among = d .1; other = λ f. d .2 (sym (byte-there (d .0) (d .1)) ∙ f) }),
   )
 
-  -- for any caller of the runs
+  -- for any caller of the runs: what is left, and the end by the bytes that stand there afterwards, or by the bits of the cells before
   pub nor-write-leaves : (r : UsbRun) (after leaves : List ℕ) → RunMeets r after leaves its-run
-      → (r .steps ≡ 4) × (r .operation .next ≡ operation.CommandBlock) × (after ≡ over at cells flash) × (r .device .«current_command» ≡ None)
+      → (r .steps ≡ 4) × (r .operation .next ≡ operation.CommandBlock) × (after ≡ over at cells flash) × (leaves ≡ bytes) × (r .device .«current_command» ≡ None)
   nor-write-leaves r after leaves m =
       let w = write-run Nor device flash bytes store sectors stands tag small first count low few some enough fits in (
         m .steps ∙ w .1,
         ap (λ (s : UsbState). s .operation .next) (m .leaves) ∙ w .2,
         ap (λ (s : UsbState). s .flash) (m .leaves) ∙ left,
+        ap (λ (s : UsbState). s .«data») (m .leaves) ∙ w .5,
         ap (λ (s : UsbState). s .device .«current_command») (m .leaves) ∙ w .4,
       )
 
-  pub nor-write-15 : (r : UsbRun) (after leaves : List ℕ) → RunMeets r after leaves its-run → DiffersAt at wanted after → answerEnd (r .answer) (r .beside) ≡ tells (refused 15 [])
-  nor-write-15 r after leaves m d =
-      m .tells ∙ cells-refuse-exactly .0 (subst (DiffersAt at wanted) (ap (λ (s : UsbState). s .flash) (m .leaves)) d)
+  pub nor-write-15 : (r : UsbRun) (after leaves : List ℕ) → RunMeets r after leaves its-run
+      → (DiffersAt at wanted after → answerEnd (r .answer) (r .beside) ≡ tells (refused 15 [])) × (answerEnd (r .answer) (r .beside) ≡ tells (refused 15 []) → DiffersAt at wanted after)
+  nor-write-15 r after leaves m =
+      let same = ap (λ (s : UsbState). s .flash) (m .leaves) in (
+        (λ d. m .tells ∙ cells-refuse-exactly .0 (subst (DiffersAt at wanted) same d)),
+        (λ e. subst (DiffersAt at wanted) (sym same) (cells-refuse-exactly .1 (sym (m .tells) ∙ e))),
+      )
+
+  pub nor-write-whole : (r : UsbRun) (after leaves : List ℕ) → RunMeets r after leaves its-run
+      → ((i : ℕ) → i < length wanted → bitAnd (getD flash (at + i) 0) (getD wanted i 0) ≡ getD wanted i 0)
+      → (answerEnd (r .answer) (r .beside) ≡ tells (given (moved (transfer.whole (count * sectorSize))))) × (after ≡ over at wanted flash)
+  unfolding byStatus
+  nor-write-whole r after leaves m all =
+      let room : length wanted ≤ length (drop at flash) = simp length-drop (omega (arith, in-flash, length-programmed wanted (drop at flash))) in
+      let same = takes-bits wanted (drop at flash) room (λ i h. ap (λ (x : ℕ). bitAnd x (getD wanted i 0)) (getD-drop at flash i 0) ∙ all i h) in
+      let success = tells-success wanted (drop at flash) same in (
+        m .tells ∙ ended ∙ ap (λ (p : status.Status). tells (byStatus p (given (moved (transfer.whole (count * sectorSize)))))) success,
+        ap (λ (s : UsbState). s .flash) (m .leaves) ∙ left ∙ ap (λ (l : List ℕ). over at l flash) same,
+      )
 
 -- an erase that is taken
 module _ (device : MockState) (flash bytes : List ℕ) (store sectors : ℕ) (stands : Standing Nor device flash store sectors) (tag : ℕ) (small : tag < 256 ^ 4)
@@ -262,3 +285,38 @@ module _ (device : MockState) (flash bytes : List ℕ) (store sectors : ℕ) (st
             ap (take (n * sectorSize)) (landed ∙ ap (λ (l : List ℕ). front (front l held) room) there ∙ append-assoc sent (drop (length sent) held) behind)
                 ∙ take-at sent (drop (length sent) held ++ behind) (n * sectorSize) size,
           )
+
+-- an erase that 63 refuses, for any caller: one step, the flash as it was, and no transaction
+module _ (device : MockState) (flash bytes : List ℕ) (store sectors : ℕ) (stands : Standing Nor device flash store sectors) (tag : ℕ) (small : tag < 256 ^ 4)
+    (first count : ℕ) (low : first < 256 ^ 4) (few : count < 256 ^ 2) (code : CommandCode)
+    (parts : Splits Nor (device .config .«block_size_sectors») sectors (sectorCommand tag 0 Out code first count)) where
+  abbrev refused-run : Ran Reply UsbState
+  refused-run = operationRun kind.Nothing (sectorCommand tag 0 Out code first count) device flash bytes store
+
+  pub nor-erase-63 : (r : UsbRun) (after leaves : List ℕ) → RunMeets r after leaves refused-run
+      → (answerEnd (r .answer) (r .beside) ≡ tells (refused 63 [])) × (r .steps ≡ 1) × (after ≡ flash) × (r .device .«current_command» ≡ None)
+  unfolding sectorData refuses flashAfter pendingAfter pend
+  nor-erase-63 r after leaves m =
+      let c = sectorCommand tag 0 Out code first count in
+      let block = device .config .«block_size_sectors» in
+      let block-fits : BlockFits c = record { tag = small; transfer = omega arith; address = low; count = few } in
+      let row = subst (λ (x : Variety). Splits x block sectors c) (sym (stands .own)) parts in
+      let whole = refused-at-once-whole kind.Nothing c Nor device flash bytes store sectors stands block-fits (omega arith) (refuses (device .«last_reset») 63 [])
+      (splits-63 (device .variety) block (device .«last_reset») sectors c row) 63 [] refl in (
+        m .tells ∙ ap (λ (x : Ran Reply UsbState). x .end) whole,
+        m .steps ∙ ap (λ (x : Ran Reply UsbState). x .steps) whole,
+        ap (λ (s : UsbState). s .flash) (m .leaves ∙ ap (λ (x : Ran Reply UsbState). x .state) whole),
+        ap (λ (s : UsbState). s .device .«current_command») (m .leaves ∙ ap (λ (x : Ran Reply UsbState). x .state) whole),
+      )
+
+-- a head that a creation gave, unrefused, is one that all of this is said of
+pub created-stands : (v : Variety) (config : MockDeviceConfig) (flash : List ℕ) (store sectors : ℕ) (r : MockStep) → CreateMeets r (created v config (length flash) store)
+    → flashSectors (length flash) ≡ given sectors → Standing v (r .state) flash store sectors
+unfolding created freshState
+created-stands v config flash store sectors r m legal =
+    record {
+      own = ap (λ (s : MockState). s .variety) (m .fresh);
+      legal = legal;
+      stored = sym (ap (λ (s : MockState). s .«store_length») (m .fresh));
+      none = ap (λ (s : MockState). s .«current_command») (m .fresh);
+    }

@@ -51,7 +51,7 @@ use Rattle.mock_table.specs.declared.outcome.ReplyKind.the-variants as reply
 use Rattle.mock_base.specs.Config.{defaultConfig}
 use Rattle.mock_base.specs.Config as config
 use Rattle.mock_effects.specs.Effects.{cellsTold, replyBytes, pendingAfter}
-use Rattle.mock_effects.proofs.ReadBack as back
+use Rattle.mock_effects.specs.Steps.{writtenStatus}
 use Rattle.mock.specs.declared.device.MockState.{MockState}
 use Rattle.promise.specs.Run.{tells}
 use Rattle.run_operation.specs.Run.{sectorData}
@@ -277,7 +277,7 @@ module _ (v : Variety) (device : MockState) (flash bytes : List ℕ) (store sect
       abbrev written-by : Variety → Told Reply
       written-by x =
           pick (fitsIn sectors first count)
-          (byStatus (back.told x (writeLbaCommand tag first count) (take (count * sectorSize) bytes) flash) (given (moved (transfer.whole (count * sectorSize)))))
+          (byStatus (writtenStatus x (writeLbaCommand tag first count) (take (count * sectorSize) bytes) flash) (given (moved (transfer.whole (count * sectorSize)))))
           (refused 57 [])
 
       -- of NOR 15 where a cell did not take its byte; what was written is the first transfer-length bytes lent
@@ -288,7 +288,7 @@ module _ (v : Variety) (device : MockState) (flash bytes : List ℕ) (store sect
           let c = writeLbaCommand tag first count in
           let fits = sector-block-fits (count * sectorSize) Out WriteLBA (omega arith) in
           let last = device .«last_reset» in
-          by-fit kind.Write c (back.told (device .variety) c (take (count * sectorSize) bytes) flash)
+          by-fit kind.Write c (writtenStatus (device .variety) c (take (count * sectorSize) bytes) flash)
           (λ e. write-answered kind.Write c v device flash bytes store sectors stands fits enough (λ z. omega arith) enough refl (movedBy (device .variety) Out (rangeOf c)) (sector-fits (device .variety) last c Out sectors e))
           (λ e. write-refused kind.Write c v device flash bytes store sectors stands fits enough (λ z. omega arith) enough refl 57 [] (sector-out (device .variety) last c Out sectors e))
 

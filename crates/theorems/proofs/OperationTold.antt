@@ -81,7 +81,7 @@ module _ (device : MockState) (flash bytes : List ℕ) (store sectors : ℕ) whe
         by-end First _ _ (first-write-ends First device flash bytes store sectors stands tag small first (suc n) low few (omega arith) enough refl)
         (by-range First (fitsIn sectors first (suc n)) _ (replies First _))
 
-    pub first-operation-told : (k : Kind) (c : CommandBlock) → Sized (device .config) → Started (length bytes) k c
+    first-operation-told : (k : Kind) (c : CommandBlock) → Sized (device .config) → Started (length bytes) k c
         → OperationTold First (endTold (operationRun k c device flash bytes store .end))
     unfolding alike
     first-operation-told k c sized (chip-info tag small) = info-told First device flash bytes store sectors stands sized tag small .0
@@ -111,7 +111,7 @@ module _ (device : MockState) (flash bytes : List ℕ) (store sectors : ℕ) whe
         subst (λ (x : Variety). OperationTold Nor (unless (eraseRules x (device .config .«block_size_sectors») c sectors) (given nothing))) (sym (stands .own))
         (erase-told (device .config .«block_size_sectors») c sectors nothing)
 
-    pub nor-operation-told : (k : Kind) (c : CommandBlock) → Sized (device .config) → Started (length bytes) k c
+    nor-operation-told : (k : Kind) (c : CommandBlock) → Sized (device .config) → Started (length bytes) k c
         → OperationTold Nor (endTold (operationRun k c device flash bytes store .end))
     unfolding alike
     nor-operation-told k c sized (chip-info tag small) = info-told Nor device flash bytes store sectors stands sized tag small .0
@@ -127,3 +127,9 @@ module _ (device : MockState) (flash bytes : List ℕ) (store sectors : ℕ) whe
         by-end Nor _ _ (erase-force-ends Nor device flash bytes store sectors stands tag small first count low few) (nor-erase-told (eraseForceCommand tag first count))
     nor-operation-told k c sized (read tag first count small low few enough) = read-told Nor device flash bytes store sectors stands tag first count small low few enough
     nor-operation-told k c sized (write tag first count small low few enough) = nor-write-told tag first count small low few enough
+
+-- of either
+pub operation-told : (v : Variety) (device : MockState) (flash bytes : List ℕ) (store sectors : ℕ) → Standing v device flash store sectors → (k : Kind) (c : CommandBlock)
+    → Sized (device .config) → Started (length bytes) k c → OperationTold v (endTold (operationRun k c device flash bytes store .end))
+operation-told First device flash bytes store sectors stands k c sized started = first-operation-told device flash bytes store sectors stands k c sized started
+operation-told Nor device flash bytes store sectors stands k c sized started = nor-operation-told device flash bytes store sectors stands k c sized started

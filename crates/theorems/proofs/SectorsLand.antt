@@ -36,12 +36,11 @@ use Rattle.mock_table.specs.declared.outcome.Effect.the-variants.{Nothing}
 use Rattle.mock_table.specs.Table.{startTurn, writeRow, writeTurn}
 use Rattle.mock_table.specs.declared.session.CommandState.the-variants as state
 use Rattle.mock_effects.specs.Effects.{flashAfter, pendingAfter}
-use Rattle.mock_effects.specs.Steps.{pend, pended, writeStepOf, writeStepBy}
+use Rattle.mock_effects.specs.Steps.{pend, pended, writeStepOf, writeStepBy, writtenStatus}
 use Rattle.mock.specs.Device.{Call, writeBulk, readBulk, sessionOf}
 use Rattle.mock.specs.declared.device.MockState.{MockState}
 use Rattle.mock_effects.proofs.Frames.{write-long}
 use Rattle.mock_effects.proofs.ReadBack.{stored, as-asked, supplied}
-use Rattle.mock_effects.proofs.ReadBack as back
 use Rattle.mock_base.specs.declared.cells.Variety.{Variety}
 use Rattle.promise.specs.Run.{Turned, ends, goes, End, tells, outOfSteps, Ran, follow, runs}
 use Rattle.run_turn.specs.Turn.{UsbState, usbState, onward, bufferFor, landed, gives, received, transfers, after, usbTurn}
@@ -173,7 +172,7 @@ module _ (budget : ℕ) (s : UsbState) (reply : Reply) (c : CommandBlock) (enoug
       let block = s .device .config .«block_size_sectors» in
       let put = stored v block (sessionOf (s .device)) (s .flash) bytes c waits (g .0) in
       let rest = gone-ends budget s next reply (w .told) went in
-      let success = given-success next c (back.told v c bytes (s .flash)) sectors (ap flashSectors (write-long v block (sessionOf (s .device)) (s .flash) bytes) ∙ legal) refl (put .pending) tag fits (rest .0) reply (rest .1) in
+      let success = given-success next c (writtenStatus v c bytes (s .flash)) sectors (ap flashSectors (write-long v block (sessionOf (s .device)) (s .flash) bytes) ∙ legal) refl (put .pending) tag fits (rest .0) reply (rest .1) in
       g .1 .0 ∙ put .leaves ∙ as-asked v c bytes (s .flash) success
 
   data-read-out : s .operation .kind ≡ kind.Read → c .«cd_code» ≡ ReadLBA

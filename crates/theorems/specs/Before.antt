@@ -1,6 +1,9 @@
 -- The stand-in as it stood before it had a second variety: its transaction table, what its effects do, its bulk calls, and a turn of a run over them.
 -- The text is the one of then, but that a success is written out wherever a status stands now, and that effects and replies that there were not do nothing.
+-- The words that it is made of (`refuses`, `done`, `isErase`, `replySize`, `rangeRule`, `lengthRule`, `flashSectors`, `keeps`, `bulk`, `wrote`, `got`) are
+-- today's; of these `replySize` has the storage more, and `bulk` hands the variety on.
 use Prim.Native.Nat.{ℕ, _*_, _/_}
+use mathlib.Core.Path.{_≡_}
 use mathlib.Core.Bool.{not}
 use mathlib.Core.List.{List, [], _∷_}
 use lib.Dec.{eqb}
@@ -25,9 +28,10 @@ use Rattle.operation_finish.specs.Reply.{Reply}
 use Rattle.operation.specs.Step.{Asks, writesCommand, writesData, reads, finished, usbStep}
 use Rattle.mock_base.specs.Config.{flashInfo}
 use Rattle.mock_base.specs.Flash.{flashSectors}
+use Rattle.mock_base.specs.declared.cells.Variety.the-variants.{First}
 use Rattle.mock_base.specs.declared.config.MockDeviceConfig.{MockDeviceConfig}
 use Rattle.mock_base.specs.declared.range.FlashRange.{FlashRange}
-use Rattle.mock_table.specs.Turn.{Turn, refuses, done, hasCode, isErase, isIn, isOut, replySize}
+use Rattle.mock_table.specs.Turn.{Turn, refuses, done, hasCode, isErase, isIn, isOut, replySize, Quiet}
 use Rattle.mock_table.specs.Table.{rangeOf, rangeRule, lengthRule}
 use Rattle.mock_table.specs.declared.session.CommandState.{CommandState}
 use Rattle.mock_table.specs.declared.session.CommandState.the-variants.{None, IO, Status}
@@ -192,3 +196,8 @@ unfoldable pub usbTurn : UsbState → Turned Reply UsbState
 usbTurn s =
     transfers (usbStep (s .operation) (length (s .«data»)) commandLength .told) (usbStep (s .operation) (length (s .«data»)) commandLength .sent)
     (usbState (usbStep (s .operation) (length (s .«data»)) commandLength .next) (s .device) (s .flash) (s .«data»))
+
+-- a device of the first variety with no FAILED status pending: those that there were then
+pub record AsThen (s : MockState) : Type 0 where
+  pub own : s .variety ≡ First
+  pub quiet : Quiet (s .«current_command»)
