@@ -187,7 +187,8 @@ module _ (s : MockState) (flash bytes after : List ℕ) (r : MockStep) (c : Comm
     (λ e. old-and-new ∙ ap (λ (l : List ℕ). over at l flash) (told-success bytes (drop at flash) (told-of SUCCESS e))),
   )
 
-  -- .. and that goes by the cells as they were: success exactly if no byte asked has a bit that its cell had not, as no byte has where all cells are 0xFF
+  -- .. and that goes by the cells as they were: success exactly if no byte asked has a bit that its cell had not, as no byte has where all cells are
+  -- 0xFF
   pub success-by-bits : (((i : ℕ) → i < length bytes → bitAnd (getD flash (at + i) 0) (getD bytes i 0) ≡ getD bytes i 0) → r .state .«current_command» ≡ Status c SUCCESS)
       × (r .state .«current_command» ≡ Status c SUCCESS → (i : ℕ) → i < length bytes → bitAnd (getD flash (at + i) 0) (getD bytes i 0) ≡ getD bytes i 0)
   success-by-bits =
@@ -203,7 +204,8 @@ module _ (s : MockState) (flash bytes after : List ℕ) (r : MockStep) (c : Comm
       let success = success-by-bits .0 (λ i h. ap (λ (x : ℕ). bitAnd x (getD bytes i 0)) (clear i h) ∙ erased-takes (getD bytes i 0) (are i)) in
       (success, success-exactly .1 success)
 
--- the status that is pending is what a read of 13 bytes gets, with the command's tag and residue 0, at either variety; and then there is no transaction
+-- the status that is pending is what a read of 13 bytes gets, with the command's tag and residue 0, at either variety; and then there is no
+-- transaction
 module _ (s : MockState) (flash buffer after : List ℕ) (r : MockStep) (c : CommandBlock) (pending : status.Status) (awaits : s .«current_command» ≡ Status c pending)
     (sectors : ℕ) (legal : flashSectors (length flash) ≡ given sectors) (long : length buffer ≡ 13) (meets : MockMeets r after (readBulk s flash buffer)) where
   abbrev step : Call
@@ -223,8 +225,8 @@ module _ (s : MockState) (flash buffer after : List ℕ) (r : MockStep) (c : Com
         ∙ ap (λ (t : Turn). t .next .«current_command») row,
   )
 
--- 63 EXACTLY: of a head with NOR flash, for a command that is an erase within the flash and splits a block; then nothing is erased, and the transaction
--- has ended (`unaligned-leaves`)
+-- 63 EXACTLY: of a head with NOR flash, for a command that is an erase within the flash and splits a block; then nothing is erased, and the
+-- transaction has ended (`unaligned-leaves`)
 splits-nor : (v : Variety) (block : ℕ) (c : CommandBlock) → splits v block c ≡ true → v ≡ Nor
 unfolding splits
 splits-nor First block c e = absurd (let z : _≡_ {A = ℕ} 0 1 = cc in omega arith)

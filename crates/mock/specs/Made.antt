@@ -19,8 +19,8 @@ use Rattle.mock_table.specs.declared.session.LastReset.the-variants as reset
 use Rattle.mock.specs.Device.{created, writeBulk, readBulk, writeControl}
 use Rattle.mock.specs.declared.device.MockState.{MockState}
 
--- the record that a creation of this variety for this configuration and a store of n bytes comes to, or a call on such a record, refused or not; what is written is
--- bytes
+-- the record that a creation of this variety for this configuration and a store of n bytes comes to, or a call on such a record, refused or not; what
+-- is written is bytes
 pub data Made (v : Variety) (config : MockDeviceConfig) (n : ℕ) : MockState → Type 0 where
   creates : (flash : ℕ) → Made v config n (created v config flash n .fresh)
   writes : (s : MockState) (flash bytes : List ℕ) → Made v config n s → AreBytes bytes → Made v config n (writeBulk s flash bytes .next)

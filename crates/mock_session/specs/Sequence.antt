@@ -1,5 +1,5 @@
--- A sequence of calls as it happens, of the first variety: each call's answer, and the session, the flash and its buffer after it, are held to that call's own contract
--- alone.
+-- A sequence of calls as it happens, of the first variety: each call's answer, and the session, the flash and its buffer after it, are held to that
+-- call's own contract alone.
 use Prim.Native.Nat.{ℕ}
 use mathlib.Core.Path.{_≡_}
 use mathlib.Core.List.{List, [], _∷_}

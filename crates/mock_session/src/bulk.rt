@@ -1,4 +1,5 @@
-// The calls over a session of the first variety that is lent. Each hands a copy of the record to the by-value step, stores what comes back, and returns the answer.
+// The calls over a session of the first variety that is lent. Each hands a copy of the record to the by-value step, stores what comes back, and
+// returns the answer.
 use super::record::start_step;
 use mock_base::config::MockDeviceConfig;
 use mock_base::error::MockAnswer;

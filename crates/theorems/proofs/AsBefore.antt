@@ -1,5 +1,5 @@
--- The first variety is the stand-in as it stood before there was a second: every turn of the table and every bulk call, at every input; of reads at every
--- record that there was then, which is one with no FAILED status pending.
+-- The first variety is the stand-in as it stood before there was a second: every turn of the table and every bulk call, at every input; of reads at
+-- every record that there was then, which is one with no FAILED status pending.
 use Prim.Native.Nat.{ℕ}
 use mathlib.Core.Path.{_≡_, refl, ap, ap₂, sym, subst, _∙_}
 use mathlib.Core.Bool.{not}
@@ -127,7 +127,8 @@ read-step-as (given sectors) s config flash buffer quiet =
     ap of (read-row-as (s .«last_reset») sectors (s .«current_command») room quiet)
     ∙ ap (λ (l : List ℕ). record { told = then .told; next = then .next; leaves = l }) (row-fills config flash buffer (s .«last_reset») sectors room (s .«current_command»))
 
--- AS BEFORE. A bulk write at a device of the first variety is that of then, whatever its record holds; so is a bulk read where no FAILED status is pending
+-- AS BEFORE. A bulk write at a device of the first variety is that of then, whatever its record holds; so is a bulk read where no FAILED status is
+-- pending
 pub write-as-before : (s : MockState) (flash bytes : List ℕ) → s .variety ≡ First → writeBulk s flash bytes ≡ before.writeBulk s flash bytes
 unfolding writeBulk before.writeBulk writeStepBy before.writeStep
 write-as-before s flash bytes own =

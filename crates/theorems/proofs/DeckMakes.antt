@@ -1,4 +1,5 @@
--- A block of a deck, and so a chunk of one, makes of a device's record that calls from a fresh start made another such record; and a bench starts with one.
+-- A block of a deck, and so a chunk of one, makes of a device's record that calls from a fresh start made another such record; and a bench starts
+-- with one.
 use Prim.Native.Nat.{ℕ, zero, suc, _*_, _<_}
 use mathlib.Core.Path.{_≡_, refl, sym, subst}
 use mathlib.Core.Bool.{Bool, true, false}

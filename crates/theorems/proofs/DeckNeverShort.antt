@@ -1,4 +1,5 @@
--- The deck never meets a short transfer, whatever a block asks for and whatever the head's record and lent bytes are; and so its lines are as they were.
+-- The deck never meets a short transfer, whatever a block asks for and whatever the head's record and lent bytes are; and so its lines are as they
+-- were.
 use Prim.Native.Nat.{ℕ}
 use mathlib.Core.Path.{_≡_, refl, ap, ap₂, sym, _∙_}
 use mathlib.Core.Bool.{Bool, true, false}

@@ -100,8 +100,8 @@ module _ (s : UsbState) (c : CommandBlock) (pending : status.Status) (sectors : 
       ∙ ap (λ (x : Call). got asked.Status now x) status-read
       ∙ ap (λ (x : UsbOperation). goes (usbState x (withSession (s .device) (session None (s .device .«last_reset»))) (s .flash) (s .«data»))) status-given
 
-  -- ANSWERED. Two more turns, and the end is the reply of an operation that moved all of its data, or 15; the operation is rearmed, and the device has no
-  -- transaction
+  -- ANSWERED. Two more turns, and the end is the reply of an operation that moved all of its data, or 15; the operation is rearmed, and the device
+  -- has no transaction
   abbrev pub ended : End Reply
   ended = tells (byStatus pending (replyOf (s .operation .kind) (transferLength (s .operation)) 0 (s .operation .«data»)))
 

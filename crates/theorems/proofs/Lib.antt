@@ -16,14 +16,14 @@
 -- and Rust is a whole transfer, `OperationTold` what any may be told, `CommandsAreBytes` that its command goes out as bytes, `OperationMakes` that
 -- the device's record is one that calls from a fresh start can make, `OperationAnswered` that every step and giving has an answer,
 -- `OperationHandedBack` that the operation's record is such a one.
--- A head with NOR flash: `NorRuns` has what runs at it come to, `NorBits` that a byte gains no bit by a run that does not erase it. The first variety:
--- `AsBefore` has that its calls are those from before there was a second, `LinesAsBefore` that runs, decks and lines are.
--- A run that ended in 28: `CheckedRuns` has that it and the run that resumes it are one run, if its checks pass again, `OperationResumed` and
--- `UploadResumed` that they do, for the runs that are called.
--- A deck: `BenchStart` has the flash that a bench starts with, `ByRequest` that what holds of operations and uploads holds of blocks, `BetweenBlocks`
--- what holds between one block and the next, `DeckRefusals` the refusals that the bench can meet, `DeckNeverShort` that it meets no short transfer
--- and that its lines are as they were, `BlockNumbers` each block's number and tag, `AnyChunks` that any chunks give the lines of the whole,
--- `DeckLines` where the lines end, `DeckMakes` that the device's record is one that calls from a fresh start can make.
+-- A head with NOR flash: `NorRuns` has what runs at it come to, `NorBits` that a byte gains no bit by a run that does not erase it. The first
+-- variety: `AsBefore` has that its calls are those from before there was a second, `LinesAsBefore` that runs, decks and lines are. A run that ended
+-- in 28: `CheckedRuns` has that it and the run that resumes it are one run, if its checks pass again, `OperationResumed` and `UploadResumed` that
+-- they do, for the runs that are called. A deck: `BenchStart` has the flash that a bench starts with, `ByRequest` that what holds of operations and
+-- uploads holds of blocks, `BetweenBlocks` what holds between one block and the next, `DeckRefusals` the refusals that the bench can meet,
+-- `DeckNeverShort` that it meets no short transfer and that its lines are as they were, `BlockNumbers` each block's number and tag, `AnyChunks` that
+-- any chunks give the lines of the whole, `DeckLines` where the lines end, `DeckMakes` that the device's record is one that calls from a fresh start
+-- can make.
 pub mod CutIntoTransfers
 pub mod BehindTheImage
 pub mod StepsToFinish

@@ -1,4 +1,5 @@
--- Over a whole run at a head with NOR flash, whatever its record and its budget: a byte gains no bit, or a bulk write of the run was an erase that took it.
+-- Over a whole run at a head with NOR flash, whatever its record and its budget: a byte gains no bit, or a bulk write of the run was an erase that
+-- took it.
 use Prim.Native.Nat.{ℕ, zero, suc}
 use mathlib.Core.Path.{_≡_, refl, ap, sym, subst, _∙_}
 use mathlib.Core.Logic.{_⊎_, inl, inr, ⊎-elim}

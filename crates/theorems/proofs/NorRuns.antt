@@ -1,5 +1,5 @@
--- Runs at a head with NOR flash. A write that the cells refuse ends in 15, its steps counted, the operation rearmed, and old AND new left; behind an erase
--- of its blocks every write is whole and is read back.
+-- Runs at a head with NOR flash. A write that the cells refuse ends in 15, its steps counted, the operation rearmed, and old AND new left; behind an
+-- erase of its blocks every write is whole and is read back.
 use Prim.Native.Nat.{ℕ, suc, _+_, _*_, _<_, _≤_, _^_}
 use mathlib.Core.Path.{_≡_, refl, ap, sym, subst, _∙_}
 use mathlib.Core.Bool.{Bool, true, false}
@@ -81,7 +81,8 @@ module _ (v : Variety) (device : MockState) (flash bytes : List ℕ) (store sect
   abbrev run : Ran Reply UsbState
   run = operationRun kind.Write command device flash bytes store
 
-  -- WRITTEN. Four steps; the end is what the cells told; the operation starts again at its command; the flash is as the variety stores; no transaction
+  -- WRITTEN. Four steps; the end is what the cells told; the operation starts again at its command; the flash is as the variety stores; no
+  -- transaction
   pub write-run : (run .end ≡ tells (byStatus pending (given (moved (transfer.whole (count * sectorSize)))))) × (run .steps ≡ 4)
       × (run .state .operation .next ≡ operation.CommandBlock) × (run .state .flash ≡ flashAfter (storedBy (device .variety) (rangeOf command)) asked flash)
       × (run .state .device .«current_command» ≡ None) × (run .state .«data» ≡ bytes)
@@ -140,8 +141,8 @@ module _ (device : MockState) (flash bytes : List ℕ) (store sectors : ℕ) (st
   by-status SUCCESS e = absurd (let z : _≡_ {A = ℕ} 0 1 = cc in omega arith)
   by-status FAILED e = refl
 
-  -- 15 EXACTLY where some byte is not the one asked; and whatever the end, four steps were counted, the operation starts again at its command, each byte
-  -- is old AND new, all else of the flash as it was, and the head has no transaction
+  -- 15 EXACTLY where some byte is not the one asked; and whatever the end, four steps were counted, the operation starts again at its command, each
+  -- byte is old AND new, all else of the flash as it was, and the head has no transaction
   pub cells-refuse-exactly : (DiffersAt at wanted (its-run .state .flash) → its-run .end ≡ tells (refused 15 []))
       × (its-run .end ≡ tells (refused 15 []) → DiffersAt at wanted (its-run .state .flash))
   unfolding byStatus cellsTold

@@ -1,5 +1,5 @@
--- What each operation ends in from its start, at a device with no transaction that is lent a flash of whole sectors and its store: a reply, 53, 57; of
--- the first variety 54, of NOR 15 and 63. Rows that are the same for both are said once.
+-- What each operation ends in from its start, at a device with no transaction that is lent a flash of whole sectors and its store: a reply, 53, 57;
+-- of the first variety 54, of NOR 15 and 63. Rows that are the same for both are said once.
 use Prim.Native.Nat.{ℕ, suc, _*_, _/_, _<_, _≤_, _^_, min}
 use mathlib.Core.Path.{_≡_, refl, ap, sym, _∙_}
 use mathlib.Core.Bool.{true, false, not}

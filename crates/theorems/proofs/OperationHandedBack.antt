@@ -1,4 +1,5 @@
--- The operation that a turn or a run hands back, at any end and budget, is one that calls from its start can make: a turn is a step, and maybe a giving.
+-- The operation that a turn or a run hands back, at any end and budget, is one that calls from its start can make: a turn is a step, and maybe a
+-- giving.
 use Prim.Native.Nat.{ℕ, zero, suc, _<_}
 use mathlib.Core.Path.{_≡_, ap, sym, subst}
 use mathlib.Core.Bool.{true}

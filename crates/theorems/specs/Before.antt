@@ -1,7 +1,7 @@
 -- The stand-in as it stood before it had a second variety: its transaction table, what its effects do, its bulk calls, and a turn of a run over them.
--- The text is the one of then, but that a success is written out wherever a status stands now, and that effects and replies that there were not do nothing.
--- The words that it is made of (`refuses`, `done`, `isErase`, `replySize`, `rangeRule`, `lengthRule`, `flashSectors`, `keeps`, `bulk`, `wrote`, `got`) are
--- today's; of these `replySize` has the storage more, and `bulk` hands the variety on.
+-- The text is the one of then, but that a success is written out wherever a status stands now, and that effects and replies that there were not do
+-- nothing. The words that it is made of (`refuses`, `done`, `isErase`, `replySize`, `rangeRule`, `lengthRule`, `flashSectors`, `keeps`, `bulk`,
+-- `wrote`, `got`) are today's; of these `replySize` has the storage more, and `bulk` hands the variety on.
 use Prim.Native.Nat.{ℕ, _*_, _/_}
 use mathlib.Core.Path.{_≡_}
 use mathlib.Core.Bool.{not}

@@ -1,5 +1,5 @@
-// Shows in words how a head with NOR flash answers: a line in is one call, run as one whole operation against the one head, and a line out says how it
-// ended. README.md beside says what the lines are and how the stored ones were worked out.
+// Shows in words how a head with NOR flash answers: a line in is one call, run as one whole operation against the one head, and a line out says how
+// it ended. README.md beside says what the lines are and how the stored ones were worked out.
 use libc::STDOUT_FILENO;
 use mock::config::MockDeviceConfig;
 use mock::device::MockState;
