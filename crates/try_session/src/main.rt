@@ -112,7 +112,7 @@ fn print_transaction(state: CommandState) {
     match state {
         CommandState::None => print(b"none"),
         CommandState::IO(_) => print(b"awaiting data"),
-        CommandState::Status(_) => print(b"awaiting status"),
+        CommandState::Status(_, _) => print(b"awaiting status"),
     }
 }
 
