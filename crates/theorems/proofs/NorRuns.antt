@@ -287,6 +287,23 @@ module _ (device : MockState) (flash bytes : List ℕ) (store sectors : ℕ) (st
                 ∙ take-at sent (drop (length sent) held ++ behind) (n * sectorSize) size,
           )
 
+      -- for any caller of the runs, who hands each run the head and the flash that the one before left
+      pub nor-read-back : (erasure written read : UsbRun) (flash₁ data₁ flash₂ data₂ flash₃ data₃ : List ℕ) → RunMeets erasure flash₁ data₁ erase-run
+          → RunMeets written flash₂ data₂ (operationRun kind.Write (writeLbaCommand tag₁ from n) (erasure .device) flash₁ lent store)
+          → RunMeets read flash₃ data₃ (operationRun kind.Read (readLbaCommand tag₂ from n) (written .device) flash₂ room store)
+          → (answerEnd (erasure .answer) (erasure .beside) ≡ tells (given nothing))
+          × (answerEnd (written .answer) (written .beside) ≡ tells (given (moved (transfer.whole (n * sectorSize)))))
+          × (answerEnd (read .answer) (read .beside) ≡ tells (given (moved (transfer.whole (n * sectorSize)))))
+          × (take (n * sectorSize) data₃ ≡ take (n * sectorSize) lent)
+      nor-read-back erasure written read flash₁ data₁ flash₂ data₂ flash₃ data₃ me mw mr =
+          let writes = ap (λ (s : UsbState). operationRun kind.Write (writeLbaCommand tag₁ from n) (s .device) (s .flash) lent store) (me .leaves) in
+          let reads = ap (λ (s : UsbState). operationRun kind.Read (readLbaCommand tag₂ from n) (s .device) (s .flash) room store) (mw .leaves ∙ ap (λ (x : Ran Reply UsbState). x .state) writes) in (
+            me .tells ∙ erased-by-run .0,
+            mw .tells ∙ ap (λ (x : Ran Reply UsbState). x .end) writes ∙ write-after-erase .0,
+            mr .tells ∙ ap (λ (x : Ran Reply UsbState). x .end) reads ∙ read-back .0,
+            ap (λ (s : UsbState). take (n * sectorSize) (s .«data»)) (mr .leaves ∙ ap (λ (x : Ran Reply UsbState). x .state) reads) ∙ read-back .1,
+          )
+
 -- an erase that 63 refuses, for any caller: one step, the flash as it was, and no transaction
 module _ (device : MockState) (flash bytes : List ℕ) (store sectors : ℕ) (stands : Standing Nor device flash store sectors) (tag : ℕ) (small : tag < 256 ^ 4)
     (first count : ℕ) (low : first < 256 ^ 4) (few : count < 256 ^ 2) (code : CommandCode)
