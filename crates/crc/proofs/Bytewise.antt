@@ -37,7 +37,7 @@ pub rows-same : (f g : ℕ → ℕ) (n : ℕ) → rows f 0 n ≡ rows g 0 n → 
 rows-same f g n e k h = sym (rows-at f n k h) ∙ ap (λ (l : List ℕ). getD l k 0) e ∙ rows-at g n k h
 
 -- a low byte only moves up
-low-moves : (l : ℕ) → l < 256 → byteStep l 0 ≡ l * 256
+pub low-moves : (l : ℕ) → l < 256 → byteStep l 0 ≡ l * 256
 unfolding rows byteStep bitsStep bitStep
 low-moves = rows-same (λ (i : ℕ). byteStep i 0) (λ (i : ℕ). i * 256) 256 refl
 

@@ -23,7 +23,7 @@ over-append c (x ∷ xs) ys = over-append (byteStep c x) xs ys
 pub over-split : (c n : ℕ) (xs : List ℕ) → crcOver (crcOver c (take n xs)) (drop n xs) ≡ crcOver c xs
 over-split c n xs = sym (over-append c (take n xs) (drop n xs)) ∙ ap (crcOver c) (take-append-drop n xs)
 
-bit-lt : (c b : ℕ) → bitStep c b < 2 ^ 16
+pub bit-lt : (c b : ℕ) → bitStep c b < 2 ^ 16
 unfolding bitStep
 bit-lt c b =
     let t = bitXor (c / 2 ^ 15) b % 2 in
