@@ -15,7 +15,7 @@ use Rattle.deck_block.specs.declared.Fields.{Fields}
 use Rattle.deck_block.specs.declared.Request.{Request}
 use Rattle.deck_block.specs.declared.Request.the-variants as request
 use Rattle.deck_block.specs.Block.{blockLength, fieldsOf, isKind}
-use Rattle.deck_block.specs.Reading.{resetRequest, switchRequest, requestOf, readCard, Passed}
+use Rattle.deck_block.specs.Reading.{resetRequest, switchRequest, requestOf, readBy, readCard, Passed}
 
 -- a kind from `i` up that is not `i` is further up
 further : (i k : ℕ) → i ≤ k → eqb k i ≡ false → suc i ≤ k
@@ -59,7 +59,7 @@ unfolding orRefuse
 no-rule told = refl
 
 pub passed-rules : (tag : ℕ) (block : List ℕ) (r : Request) → readCard tag block ≡ given r → Passed block r
-unfolding readCard
+unfolding readBy
 passed-rules tag block r h =
     let f = fieldsOf block in
     let long = rule-met _ _ (requestOf f) r h in

@@ -13,7 +13,7 @@ use Rattle.promise.proofs.Outcome.{by-test}
 use Rattle.protocol_codes.specs.declared.ResetOpcode.{ResetOpcode}
 use Rattle.protocol_codes.specs.Reading.{resetOf}
 use Rattle.deck_block.specs.Block.{blockLength, fieldsOf, blockCheck, allZero, isKind, tooLarge}
-use Rattle.deck_block.specs.Reading.{asksReset, resetRequest, readCard}
+use Rattle.deck_block.specs.Reading.{asksReset, resetRequest, readBy, readCard}
 use Rattle.deck_block.proofs.ByKind.{by-kind}
 use Rattle.deck_block.specs.Refusals.{CardTold}
 
@@ -23,7 +23,7 @@ reset-told (given opcode) = tt
 reset-told (refused n values) = refl
 
 pub card-told : (tag : ℕ) (block : List ℕ) → CardTold (readCard tag block)
-unfolding readCard resetRequest orRefuse
+unfolding readBy resetRequest orRefuse
 card-told tag block =
     let f = fieldsOf block in
     by-test CardTold (ltb (length block) blockLength) {a = refused 44 []} (λ e. refl)

@@ -1,47 +1,31 @@
 -- Programs that the contracts rule out, whatever their proofs: each answer is refuted at a named block.
-use Prim.Native.Nat.{ℕ, suc, _+_, _^_, _<_}
+use Prim.Native.Nat.{ℕ, suc, _≤_}
 use mathlib.Core.Path.{_≡_, refl, ap, sym, _∙_}
 use mathlib.Core.Bool.{not}
 use mathlib.Core.List.{List, [], _∷_, _++_}
 use native.Mathlib.Omega.{arith}
 use borrow.Author.Tests.{eq-eqb}
-use lib.Dec.{lit<}
+use lib.Dec.{lit≤}
 use lib.ListN.{length, take, replicate, length-append}
 use lib.Seq.{take-at, drop-at}
 use Rattle.promise.specs.Told.{given, refused, number}
 use Rattle.promise.specs.Rules.{orRefuse, rule, unless}
 use Rattle.promise.specs.Bytes.{field, lowFirst, highFirst, fromLow, fromHigh}
 use Rattle.promise.proofs.Order.{from-high-first}
-use Rattle.crc.specs.Check.{check, start}
+use Rattle.crc.specs.Check.{bitStep, bitsStep, byteStep, crcOver, check}
 use Rattle.crc.proofs.Laws.{over-lt}
 use Rattle.deck_block.specs.declared.Request.{Request}
 use Rattle.deck_block.specs.declared.Request.the-variants as request
 use Rattle.deck_block.specs.declared.CardAnswer.{CardAnswer}
 use Rattle.deck_block.specs.declared.CardAnswer.the-variants as answer
-use Rattle.deck_block.specs.Block.{fieldsOf, blockCheck, allZero, isKind, tooLarge}
-use Rattle.deck_block.specs.Reading.{requestOf, readCard, cardTold}
+use Rattle.deck_block.specs.Block.{fieldsOf, blockCheck, firstCheck, withCheck, allZero, isKind, tooLarge}
+use Rattle.deck_block.specs.Reading.{requestOf, readBy, readCard, cardTold}
+use Rattle.deck_block.proofs.Rechecked.{whole-block, right-there}
+use Rattle.deck_block.proofs.Place.{refused-elsewhere}
 
--- 510 bytes with their check behind them
+-- 510 bytes with the check of block 1 behind them
 abbrev pub sealed : List ℕ → List ℕ
-sealed body = body ++ highFirst 2 (check body)
-
-two-bytes : (v : ℕ) → take 2 (highFirst 2 v) ≡ highFirst 2 v
-unfolding highFirst lowFirst
-two-bytes v = refl
-
-whole-block : (body : List ℕ) → length body ≡ 510 → length (sealed body) ≡ 512
-unfolding highFirst lowFirst
-whole-block body long = length-append body (highFirst 2 (check body)) ∙ ap (λ (n : ℕ). n + 2) long
-
--- their check is right
-check-right : (body : List ℕ) → length body ≡ 510 → fieldsOf (sealed body) .check ≡ blockCheck 1 (sealed body)
-unfolding fieldsOf blockCheck
-check-right body long =
-    let c = check body in
-    let small : c < 2 ^ 16 = over-lt start body (lit< tt) in
-    let behind : field 510 2 (sealed body) ≡ highFirst 2 c = ap (take 2) (drop-at body (highFirst 2 c) 510 long) ∙ two-bytes c in
-    let before : take 510 (sealed body) ≡ body = take-at body (highFirst 2 c) 510 long in
-    ap fromHigh behind ∙ from-high-first 2 c (omega arith) ∙ sym (ap check before)
+sealed body = withCheck 1 body
 
 -- so the rules behind it are looked at
 rest-read : (body : List ℕ) → length body ≡ 510
@@ -52,8 +36,10 @@ rest-read : (body : List ℕ) → length body ≡ 510
     ∷ rule (tooLarge (fieldsOf (sealed body))) 43 []
     ∷ [])
     (requestOf (fieldsOf (sealed body)))
-unfolding readCard orRefuse
-rest-read body long = rw (whole-block body long, eq-eqb _ _ (check-right body long)) refl
+unfolding readBy orRefuse
+rest-read body long =
+    let enough : 510 ≤ length body = omega arith in
+    rw (whole-block 1 body enough, eq-eqb _ _ (right-there 1 body enough)) refl
 
 -- a body by its kind, the last bytes of its word, its half and byte 8
 abbrev pub body : ℕ → ℕ → ℕ → ℕ → ℕ → ℕ → List ℕ
@@ -103,7 +89,7 @@ unfolding orRefuse requestOf fieldsOf allZero isKind tooLarge fromLow fromHigh
 read-unchecked = rest-read (body 13 0 0 0 0 0) refl
 
 pub read-none : readCard 1 [] ≡ refused 44 []
-unfolding readCard orRefuse
+unfolding readBy orRefuse
 read-none = refl
 
 -- a reader that refuses every block
@@ -138,6 +124,41 @@ longer-images q meets = let z : _≡_ {A = ℕ} 0 1 = cc (meets, read-image) in 
 pub kind-after-zeros : cardTold answer.NotZero ≡ readCard 1 unknown → ⊥
 unfolding cardTold
 kind-after-zeros meets = let z : _≡_ {A = ℕ} 42 41 = cc (meets, read-unknown) in omega arith
+
+-- a block let through at another place
+pub another-place : (q : Request) → cardTold (answer.Asks q) ≡ readCard 2 chip → ⊥
+unfolding cardTold
+another-place q meets =
+    let enough : 510 ≤ length (body 1 0 0 0 0 0) = lit≤ tt in
+    let long : 512 ≤ length chip = let e = whole-block 1 (body 1 0 0 0 0 0) enough in omega arith in
+    let refused-there = refused-elsewhere 1 2 chip (omega arith) (omega arith) (λ e. omega arith) long (right-there 1 (body 1 0 0 0 0 0) enough) in
+    let z : _≡_ {A = ℕ} 0 1 = cc (meets, refused-there) in omega arith
+
+-- the check of block 1 with one byte, and what it is not: the tag behind the byte, the tag's low byte first, the tag of the next block, no tag
+pub tag-behind : (r : ℕ) → r ≡ check ((2 ∷ []) ++ highFirst 4 1) → r ≡ blockCheck 1 (2 ∷ []) → ⊥
+unfolding blockCheck crcOver byteStep bitsStep bitStep highFirst lowFirst
+tag-behind r behind meets = let differ : _≡_ {A = ℕ} 0x45AE 0x027F = sym behind ∙ meets in omega arith
+
+pub tag-low-first : (r : ℕ) → r ≡ check (lowFirst 4 1 ++ (2 ∷ [])) → r ≡ blockCheck 1 (2 ∷ []) → ⊥
+unfolding blockCheck crcOver byteStep bitsStep bitStep highFirst lowFirst
+tag-low-first r low meets = let differ : _≡_ {A = ℕ} 0x9B1F 0x027F = sym low ∙ meets in omega arith
+
+pub next-tag : (r : ℕ) → r ≡ blockCheck 2 (2 ∷ []) → r ≡ blockCheck 1 (2 ∷ []) → ⊥
+unfolding blockCheck crcOver byteStep bitsStep bitStep highFirst lowFirst
+next-tag r next meets = let differ : _≡_ {A = ℕ} 0x572C 0x027F = sym next ∙ meets in omega arith
+
+pub no-tag : (r : ℕ) → r ≡ firstCheck (2 ∷ []) → r ≡ blockCheck 1 (2 ∷ []) → ⊥
+unfolding blockCheck crcOver byteStep bitsStep bitStep highFirst lowFirst
+no-tag r first meets = let differ : _≡_ {A = ℕ} 0xC1B2 0x027F = sym first ∙ meets in omega arith
+
+-- the first check: one answer for all blocks, and the check's own bytes counted in
+pub fixed-first : (r : ℕ) → r ≡ firstCheck [] → r ≡ firstCheck (0 ∷ []) → ⊥
+unfolding crcOver byteStep bitsStep bitStep
+fixed-first r none one = let differ : _≡_ {A = ℕ} 0xFFFF 0xE1F0 = sym none ∙ one in omega arith
+
+pub check-counted-in : (r : ℕ) → r ≡ check (replicate 510 0 ++ (1 ∷ 2 ∷ [])) → r ≡ firstCheck (replicate 510 0 ++ (1 ∷ 2 ∷ [])) → ⊥
+unfolding crcOver byteStep bitsStep bitStep
+check-counted-in r all first = let differ : _≡_ {A = ℕ} 0x0547 0x44B7 = sym all ∙ first in omega arith
 
 -- one number for two refusals
 pub one-number : (n : ℕ) → n ≡ number (cardTold answer.Short) → n ≡ number (cardTold answer.BadCheck) → ⊥

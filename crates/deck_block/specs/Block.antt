@@ -1,11 +1,11 @@
 -- The fields of a deck's block, its check, and what its rules test.
 use Prim.Native.Nat.{ℕ}
 use mathlib.Core.Bool.{Bool, true, false}
-use mathlib.Core.List.{List, [], _∷_}
+use mathlib.Core.List.{List, [], _∷_, _++_}
 use lib.ListN.{getD, take}
 use lib.Dec.{eqb, ltb, leb}
 use Rattle.promise.specs.Rules.{pick}
-use Rattle.promise.specs.Bytes.{field, fromHigh}
+use Rattle.promise.specs.Bytes.{field, highFirst, fromHigh}
 use Rattle.crc.specs.Check.{check}
 use Rattle.deck_block.specs.declared.Fields.{Fields}
 
@@ -24,9 +24,21 @@ fieldsOf block =
       check = fromHigh (field 510 2 block);
     }
 
--- the check of the block that has this tag: "the CRC-16/IBM-3740 of bytes 0-509"
+-- a block's bytes before its check: "bytes 0-509"
+abbrev pub checkedLength : ℕ
+checkedLength = 510
+
+-- the check of the block that has this tag: "the check starts with the block's tag, four bytes big-endian, and then the 510 bytes"
 unfoldable pub blockCheck : ℕ → List ℕ → ℕ
-blockCheck tag block = check (take 510 block)
+blockCheck tag block = check (highFirst 4 tag ++ take checkedLength block)
+
+-- the first check, of decks made before: "the CRC-16/IBM-3740 of bytes 0-509"
+abbrev pub firstCheck : List ℕ → ℕ
+firstCheck block = check (take checkedLength block)
+
+-- a block's bytes with the check of this tag behind them
+abbrev pub withCheck : ℕ → List ℕ → List ℕ
+withCheck tag block = take checkedLength block ++ highFirst 2 (blockCheck tag block)
 
 unfoldable pub allZero : List ℕ → Bool
 allZero [] = true

@@ -14,7 +14,7 @@ use Rattle.deck_block.specs.declared.Request.{Request}
 use Rattle.deck_block.specs.declared.Request.the-variants as request
 use Rattle.deck_block.specs.declared.CardAnswer.{CardAnswer}
 use Rattle.deck_block.specs.declared.CardAnswer.the-variants as answer
-use Rattle.deck_block.specs.Block.{blockLength, fieldsOf, blockCheck, allZero, isKind, tooLarge, chipInfoKind, flashIdKind, flashInfoKind, capabilityKind, eraseLbaKind, eraseForceKind, readKind, writeKind, resetKind, storageKind, switchKind, uploadKind, mostDeckSectors, longestImage}
+use Rattle.deck_block.specs.Block.{blockLength, fieldsOf, blockCheck, firstCheck, allZero, isKind, tooLarge, chipInfoKind, flashIdKind, flashInfoKind, capabilityKind, eraseLbaKind, eraseForceKind, readKind, writeKind, resetKind, storageKind, switchKind, uploadKind, mostDeckSectors, longestImage}
 use mathlib.Core.Path.{_≡_}
 
 -- 45: "reset above 4"
@@ -49,17 +49,25 @@ requestOf f =
     (pick (eqb (f .kind) uploadKind) (given (request.WriteArea (f .half) (f .word) (f .byte)))
     (given (request.WriteAreaNoCrc (f .half) (f .word) (f .byte))))))))))))))
 
--- "Refused in order: 44 short last block .., 40 check, 41 kind, 42 bytes 8-509, 43 .., 45 reset above 4"
-unfoldable pub readCard : ℕ → List ℕ → Told Request
-readCard tag block =
+-- a block that must have this check: "Refused in order: 44 short last block .., 40 check, 41 kind, 42 bytes 8-509, 43 .., 45 reset above 4"
+unfoldable pub readBy : ℕ → List ℕ → Told Request
+readBy check block =
     unless
     (rule (ltb (length block) blockLength) 44 []
-    ∷ rule (not (eqb (fieldsOf block .check) (blockCheck tag block))) 40 []
+    ∷ rule (not (eqb (fieldsOf block .check) check)) 40 []
     ∷ rule (not (isKind (fieldsOf block .kind))) 41 []
     ∷ rule (not (allZero (field 8 502 block))) 42 []
     ∷ rule (tooLarge (fieldsOf block)) 43 []
     ∷ [])
     (requestOf (fieldsOf block))
+
+-- the block that has this tag
+abbrev pub readCard : ℕ → List ℕ → Told Request
+readCard tag block = readBy (blockCheck tag block) block
+
+-- a block of a deck made before, as it was read then
+abbrev pub readBefore : List ℕ → Told Request
+readBefore block = readBy (firstCheck block) block
 
 unfoldable pub cardTold : CardAnswer → Told Request
 cardTold (answer.Asks r) = given r

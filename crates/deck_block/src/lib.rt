@@ -5,6 +5,10 @@ ghost use lib.ListN.{length};
 ghost use Rattle.promise.specs.Told.{number};
 ghost use Rattle.deck_block.specs.Block.{fieldsOf, allZero, isKind, tooLarge, blockCheck};
 ghost use Rattle.deck_block.specs.Reading.{cardTold, resetRequest, switchRequest, requestOf, readCard};
+
+pub mod check;
+
+use check::block_check;
 use protocol_bytes::order::u16_from_be_bytes;
 use protocol_bytes::order::u32_from_be_bytes;
 use protocol_codes::ResetOpcode;
@@ -81,14 +85,6 @@ fn fields_of(block: &[u8]) -> Fields
         byte: block[7],
         check: u16_from_be_bytes(check),
     }
-}
-
-// The check that the block with this tag must have.
-fn block_check(tag: u32, block: &[u8]) -> u16
-    requires { ⌜ 512 ≤ length (now block) ⌝ }
-    ensures { λ r. ⌜ r ≡ blockCheck tag (now (block .entry)) ⌝ }
-{
-    crc::checksum(&block[..510])
 }
 
 fn all_zero(bytes: &[u8]) -> bool

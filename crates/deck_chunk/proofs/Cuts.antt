@@ -1,40 +1,15 @@
--- An input cut into chunks of whole blocks: its blocks are theirs, one after the other, and so are its lines.
-use Prim.Native.Nat.{ℕ, zero, suc, _+_, _*_, _/_, _%_, _≤_}
+-- An input cut into chunks of whole blocks: its lines are theirs, one after the other.
+use Prim.Native.Nat.{ℕ, _+_, _%_}
 use mathlib.Core.Path.{_≡_, refl, ap, ap₂, sym, _∙_}
 use mathlib.Core.Bool.{Bool, true, false}
 use mathlib.Core.List.{List, [], _∷_, _++_, append-assoc, append-nil}
 use native.Mathlib.Omega.{arith}
-use native.Mathlib.Numerals.{unary-clauses}
-use lib.ListN.{length, take, drop, length-append, length-drop}
-use lib.Seq.{take-append-le, drop-append-le}
+use lib.ListN.{length}
 use Rattle.deck_block.specs.Block.{blockLength}
-use Rattle.deck_chunk.specs.Deck.{Table, Lines, lines, thenDeal, dealNext, dealBlocks, begun, cut, blocksOf, dealAll}
+use Rattle.deck_block.specs.Blocks.{cut, blocksOf}
+use Rattle.deck_block.proofs.Blocks.{blocks-append}
+use Rattle.deck_chunk.specs.Deck.{Table, Lines, lines, thenDeal, dealNext, dealBlocks, dealAll}
 use Rattle.deck_chunk.proofs.Laws.{nothing-first, regroup, over-stays}
-
-no-bytes : (a : List ℕ) → length a ≡ 0 → a ≡ []
-no-bytes [] e = refl
-no-bytes (x ∷ a) e = absurd (omega arith)
-
--- k whole blocks and what follows them
-cut-append : (k m : ℕ) (a b : List ℕ) → length a ≡ k * blockLength → cut (k + m) (a ++ b) ≡ cut k a ++ cut m b
-unfolding cut
-cut-append zero m a b e =
-    let none : length a ≡ 0 = omega arith in
-    let z : 0 + m ≡ m = omega arith in
-    ap (λ (l : List ℕ). cut (0 + m) (l ++ b)) (no-bytes a none) ∙ ap (λ (n : ℕ). cut n b) z
-cut-append (suc k) m a b e =
-    let long : blockLength ≤ length a = omega arith in
-    let rest : length (drop blockLength a) ≡ k * blockLength = simp length-drop (omega arith) in
-    let one : suc k + m ≡ suc (k + m) = omega arith in
-    ap (λ (n : ℕ). cut n (a ++ b)) one
-    ∙ ap₂ (λ (block : List ℕ) (l : List ℕ). block ∷ cut (k + m) l) (take-append-le blockLength a b long) (drop-append-le blockLength a b long)
-    ∙ ap (λ (bs : List (List ℕ)). take blockLength a ∷ bs) (cut-append k m (drop blockLength a) b rest)
-
-pub blocks-append : (a b : List ℕ) → length a % blockLength ≡ 0 → blocksOf (a ++ b) ≡ blocksOf a ++ blocksOf b
-blocks-append a b whole =
-    let long : length a ≡ begun (length a) * blockLength = omega arith in
-    let n : begun (length (a ++ b)) ≡ begun (length a) + begun (length b) = simp length-append (omega arith) in
-    ap (λ (k : ℕ). cut k (a ++ b)) n ∙ cut-append (begun (length a)) (begun (length b)) a b long
 
 -- the lines of some blocks and of more
 pub deal-append : (xs ys : List (List ℕ)) (t : Table) → dealBlocks (xs ++ ys) t ≡ thenDeal (dealBlocks xs t) (λ next. dealBlocks ys next)

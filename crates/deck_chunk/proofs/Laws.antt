@@ -17,15 +17,16 @@ use Rattle.deck.specs.Bench.{nextTag, nextNumber, benchAt, nextDeal}
 use Rattle.deck_line.specs.declared.Line.{Line}
 use Rattle.deck_line.specs.Line.{lineText, line, longestLine}
 use Rattle.deck_block.specs.Block.{blockLength}
+use Rattle.deck_block.specs.Blocks.{isShort, begun, cut, blockAt}
 use Rattle.deck_chunk.specs.declared.Deck.{Deck}
 use Rattle.deck_chunk.specs.declared.Lined.{Lined}
 use Rattle.deck_chunk.specs.declared.Progress.{Progress}
-use Rattle.deck_chunk.specs.Deck.{Table, table, Lines, lines, thenDeal, isShort, tableAfter, dealNext, dealBlocks, begun, cut, dealAll}
+use Rattle.deck_chunk.specs.Deck.{Table, table, Lines, lines, thenDeal, tableAfter, dealNext, dealBlocks, dealAll}
 use Rattle.deck_chunk.specs.declared.ChunkCount.{ChunkCount}
 use Rattle.deck_chunk.specs.declared.ChunkAnswer.the-variants.{Dealt, TooShort}
 use Rattle.deck_chunk.specs.Chunk.{chunkTold, Chunk, chunkDealt, dealChunk, ChunkMeets}
 use Rattle.promise.specs.Told.{Told, given}
-use Rattle.deck_chunk.specs.Code.{blockAt, LinedMeets, NextMeets, DoneMeets}
+use Rattle.deck_chunk.specs.Code.{LinedMeets, NextMeets, DoneMeets}
 
 -- a part as long as itself
 pub whole-part : (n : ℕ) (l : List ℕ) → take (length (take n l)) l ≡ take n l

@@ -12,11 +12,12 @@ use Rattle.deck.specs.declared.bench.Bench.{Bench}
 use Rattle.deck.specs.Bench.{benchAt}
 use Rattle.deck_line.specs.Digits.{digit, digits, decimal}
 use Rattle.deck_line.specs.Line.{lineText}
+use Rattle.deck_block.specs.Blocks.{cut}
 use Rattle.deck_chunk.specs.declared.Deck.{Deck}
 use Rattle.deck_chunk.specs.declared.ChunkCount.{ChunkCount}
 use Rattle.deck_chunk.specs.declared.ChunkAnswer.the-variants.{Dealt, TooShort}
 use Rattle.deck_chunk.specs.declared.ChunkStep.{ChunkStep}
-use Rattle.deck_chunk.specs.Deck.{Table, table, newDeck, dealNext, dealBlocks, cut}
+use Rattle.deck_chunk.specs.Deck.{Table, table, newDeck, dealNext, dealBlocks}
 use Rattle.deck_chunk.specs.Chunk.{chunkTold, Chunk, dealChunk, ChunkMeets}
 
 -- 20 told as 0

@@ -7,12 +7,13 @@ use Rattle.promise.specs.Told.{Told, given, refused}
 use Rattle.promise.specs.Bytes.{front}
 use Rattle.promise.specs.Rules.{Rule, roomRule, tooShort, orRefuse}
 use Rattle.deck_line.specs.Line.{longestLine}
+use Rattle.deck_block.specs.Blocks.{begun}
 use Rattle.deck_chunk.specs.declared.Deck.{Deck}
 use Rattle.deck_chunk.specs.declared.ChunkCount.{ChunkCount}
 use Rattle.deck_chunk.specs.declared.ChunkAnswer.{ChunkAnswer}
 use Rattle.deck_chunk.specs.declared.ChunkAnswer.the-variants.{Dealt, TooShort}
 use Rattle.deck_chunk.specs.declared.ChunkStep.{ChunkStep}
-use Rattle.deck_chunk.specs.Deck.{Table, table, Lines, begun, dealAll}
+use Rattle.deck_chunk.specs.Deck.{Table, table, Lines, dealAll}
 
 -- number and values of every answer
 unfoldable pub chunkTold : ChunkAnswer → Told ChunkCount

@@ -2,10 +2,9 @@
 use Prim.Native.Nat.{ℕ, _+_, _≤_}
 use mathlib.Core.Path.{_≡_}
 use mathlib.Core.List.{List}
-use lib.ListN.{length, take, drop}
+use lib.ListN.{length}
 use Rattle.promise.specs.Bytes.{front}
 use Rattle.promise.specs.Over.{over}
-use Rattle.deck_block.specs.Block.{blockLength}
 use Rattle.deck.specs.declared.bench.Bench.{Bench}
 use Rattle.deck.specs.Deal.{Deal, Head, head}
 use Rattle.deck.specs.Bench.{nextTag, nextNumber, benchAt, nextDeal}
@@ -13,10 +12,6 @@ use Rattle.deck_line.specs.Line.{lineText, line, longestLine}
 use Rattle.deck_chunk.specs.declared.Lined.{Lined}
 use Rattle.deck_chunk.specs.declared.Progress.{Progress}
 use Rattle.deck_chunk.specs.Deck.{Table, table, Lines, dealNext}
-
--- the block that starts at place `from` of a chunk
-abbrev pub blockAt : ℕ → List ℕ → List ℕ
-blockAt from chunk = take blockLength (drop from chunk)
 
 -- the line of a block, and what the block leaves
 pub record LinedMeets (r : Lined) (flash store : List ℕ) (bench : Bench) (block before held : List ℕ) : Type 0 where

@@ -1,12 +1,11 @@
 -- The deck as a whole: from all bytes of the input to the lines, and to what the blocks leave.
-use Prim.Native.Nat.{ℕ, zero, suc, _+_, _/_}
-use mathlib.Core.Bool.{Bool, true, false}
+use Prim.Native.Nat.{ℕ, _+_}
+use mathlib.Core.Bool.{false}
 use mathlib.Core.List.{List, [], _∷_, _++_}
-use lib.Dec.{ltb}
-use lib.ListN.{length, take, drop, replicate}
+use lib.ListN.{length, replicate}
 use Rattle.promise.specs.Rules.{pick}
 use Rattle.mock_base.specs.Config.{defaultFlash}
-use Rattle.deck_block.specs.Block.{blockLength}
+use Rattle.deck_block.specs.Blocks.{isShort, blocksOf}
 use Rattle.deck.specs.declared.bench.Bench.{Bench}
 use Rattle.deck.specs.Deal.{Deal}
 use Rattle.deck.specs.Bench.{freshBench, nextTag, nextNumber, benchAt, nextDeal}
@@ -35,10 +34,6 @@ lines text blocks leaves = record { text = text; blocks = blocks; leaves = leave
 abbrev pub thenDeal : Lines → (Table → Lines) → Lines
 thenDeal l more = lines (l .text ++ more (l .leaves) .text) (l .blocks + more (l .leaves) .blocks) (more (l .leaves) .leaves)
 
--- "44 short last block (then stop)"
-abbrev pub isShort : List ℕ → Bool
-isShort block = ltb (length block) blockLength
-
 abbrev pub dealOf : Table → List ℕ → Deal
 dealOf t block = nextDeal (t .deck .bench) block (t .flash) (t .store)
 
@@ -63,19 +58,6 @@ dealNext block t =
 unfoldable pub dealBlocks : List (List ℕ) → Table → Lines
 dealBlocks [] t = lines [] 0 t
 dealBlocks (block ∷ blocks) t = thenDeal (dealNext block t) (λ next. dealBlocks blocks next)
-
--- how many blocks so many bytes begin
-abbrev pub begun : ℕ → ℕ
-begun n = (n + 511) / blockLength
-
--- the first blocks of an input
-unfoldable pub cut : ℕ → List ℕ → List (List ℕ)
-cut zero input = []
-cut (suc n) input = take blockLength input ∷ cut n (drop blockLength input)
-
--- "512-byte blocks", of which the last may be short; no input has none
-abbrev pub blocksOf : List ℕ → List (List ℕ)
-blocksOf input = cut (begun (length input)) input
 
 -- all of an input, from wherever the deck stands
 abbrev pub dealAll : List ℕ → Table → Lines

@@ -9,9 +9,10 @@ ghost use lib.ListN.{length, take};
 ghost use Rattle.promise.specs.Told.{number};
 ghost use Rattle.promise.specs.Over.{over};
 ghost use Rattle.deck_line.specs.Line.{longestLine};
-ghost use Rattle.deck_chunk.specs.Deck.{table, begun, newDeck, dealNext, dealAll};
+ghost use Rattle.deck_block.specs.Blocks.{begun, blockAt};
+ghost use Rattle.deck_chunk.specs.Deck.{table, newDeck, dealNext, dealAll};
 ghost use Rattle.deck_chunk.specs.Chunk.{chunkTold, dealChunk, ChunkMeets};
-ghost use Rattle.deck_chunk.specs.Code.{blockAt, LinedMeets, NextMeets, DoneMeets};
+ghost use Rattle.deck_chunk.specs.Code.{LinedMeets, NextMeets, DoneMeets};
 
 const BLOCK: usize = 512;
 

@@ -26,7 +26,8 @@ use Rattle.deck_block.specs.Reading.{readCard}
 use Rattle.deck.specs.Deal.{Head, head, Deal}
 use Rattle.deck.specs.Dealing.{operate, loadOf, load, carryOut, dealAsked, dealBlock}
 use Rattle.deck.specs.Bench.{nextTag}
-use Rattle.deck_chunk.specs.Deck.{Table, table, blocksOf, dealNext, dealBlocks, dealAll}
+use Rattle.deck_block.specs.Blocks.{blocksOf}
+use Rattle.deck_chunk.specs.Deck.{Table, table, dealNext, dealBlocks, dealAll}
 use Rattle.theorems.specs.Deck.{Ready, headOf}
 use Rattle.theorems.specs.Chunks.{Deals, no-more, a-chunk}
 use Rattle.theorems.proofs.AnyChunks.{its-table}

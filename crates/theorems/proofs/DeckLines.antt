@@ -9,11 +9,12 @@ use Rattle.promise.specs.Told.{Told, refused}
 use Rattle.promise.specs.Rules.{orRefuse}
 use Rattle.deck_block.specs.declared.Request.{Request}
 use Rattle.deck_block.specs.Block.{blockLength}
-use Rattle.deck_block.specs.Reading.{readCard}
+use Rattle.deck_block.specs.Reading.{readBy}
 use Rattle.deck.specs.Dealing.{dealAsked, dealBlock}
 use Rattle.deck.specs.Deal.{Head, away}
 use Rattle.deck.specs.Bench.{nextTag}
-use Rattle.deck_chunk.specs.Deck.{Table, Lines, lines, thenDeal, isShort, dealOf, dealNext, dealBlocks, deckStart, deckLines}
+use Rattle.deck_block.specs.Blocks.{isShort}
+use Rattle.deck_chunk.specs.Deck.{Table, Lines, lines, thenDeal, dealOf, dealNext, dealBlocks, deckStart, deckLines}
 use Rattle.deck_chunk.proofs.Cuts.{no-input, over-for-good}
 
 pub no-lines : (store : List ℕ) → deckLines store [] ≡ []
@@ -21,7 +22,7 @@ no-lines store = ap (λ (l : Lines). l .text) (no-input (deckStart store))
 
 -- 44 alone is told of a short block, and it leaves the head as it was
 short-away : (tag : ℕ) (block : List ℕ) (h : Head) → length block < blockLength → dealBlock tag block h ≡ away 44 h
-unfolding dealBlock dealAsked readCard orRefuse
+unfolding dealBlock dealAsked readBy orRefuse
 short-away tag block h short = rw (lt-ltb (length block) blockLength short) refl
 
 pub short-is-44 : (t : Table) (block : List ℕ) → length block < blockLength → dealOf t block .told ≡ refused 44 []

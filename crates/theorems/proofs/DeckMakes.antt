@@ -46,9 +46,10 @@ use Rattle.deck.specs.declared.verdict.Dealt.{Dealt}
 use Rattle.deck.specs.Deal.{Head, head, DealMeets, OperatedMeets, LoadedMeets, turnedAway}
 use Rattle.deck.specs.Dealing.{operate, loadOf, load, carryOut, dealAsked, dealBlock}
 use Rattle.deck.specs.Bench.{StartMeets, nextTag, StepMeets}
+use Rattle.deck_block.specs.Blocks.{begun, cut}
 use Rattle.deck_chunk.specs.declared.Deck.{Deck}
 use Rattle.deck_chunk.specs.declared.ChunkStep.{ChunkStep}
-use Rattle.deck_chunk.specs.Deck.{Table, table, Lines, dealNext, dealBlocks, begun, cut, dealAll}
+use Rattle.deck_chunk.specs.Deck.{Table, table, Lines, dealNext, dealBlocks, dealAll}
 use Rattle.deck_chunk.specs.Chunk.{Chunk, chunkRules, chunkDealt, dealChunk, ChunkMeets}
 use Rattle.theorems.proofs.CommandsAreBytes.{are-none, are-take, are-drop, are-copies, reset-byte, command-goes-out-as-bytes}
 use Rattle.theorems.proofs.OperationMakes.{run-leaves-made}

@@ -5,16 +5,12 @@ use mathlib.Core.List.{List, [], _∷_, _++_}
 use lib.ListN.{length, take}
 use Rattle.deck_block.specs.Block.{blockLength}
 use Rattle.deck_line.specs.Line.{longestLine}
+use Rattle.deck_block.specs.Blocks.{begun}
 use Rattle.deck_chunk.specs.declared.ChunkAnswer.{ChunkAnswer}
 use Rattle.deck_chunk.specs.declared.ChunkAnswer.the-variants.{Dealt, TooShort}
 use Rattle.deck_chunk.specs.declared.ChunkStep.{ChunkStep}
-use Rattle.deck_chunk.specs.Deck.{Table, table, begun}
+use Rattle.deck_chunk.specs.Deck.{Table, table}
 use Rattle.deck_chunk.specs.Chunk.{dealChunk, ChunkMeets}
-
--- the chunks one behind the other
-unfoldable pub joined : List (List ℕ) → List ℕ
-joined [] = []
-joined (chunk ∷ chunks) = chunk ++ joined chunks
 
 -- every chunk but the last has whole blocks; it may have none
 abbrev pub WholeButLast : List (List ℕ) → Type 0

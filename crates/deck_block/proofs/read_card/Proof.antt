@@ -12,7 +12,7 @@ use Rattle.promise.specs.Rules.{orRefuse}
 use Rattle.promise.specs.Bytes.{field}
 use Rattle.deck_block.specs.declared.Fields.{Fields}
 use Rattle.deck_block.specs.Block.{fieldsOf, blockCheck, allZero, isKind, tooLarge}
-use Rattle.deck_block.specs.Reading.{cardTold, requestOf, readCard}
+use Rattle.deck_block.specs.Reading.{cardTold, requestOf, readBy}
 use Rattle.deck_block.proofs.read_card.Statement.{statement}
 use Rattle.deck_block.proofs.read_card.Tie as tie
 
@@ -38,11 +38,11 @@ zero-rest : (c : tie.Else4) → allZero (field 8 502 (read (c .before .before .b
 zero-rest c = sym (c .before .all-zero .ensures) ∙ not-false (c .before .all-zero .result) (c .if4 .left)
 
 returns : tie.Need-returns
-unfolding cardTold readCard orRefuse
+unfolding cardTold readBy orRefuse
 returns c = rw (lt-ltb (length (now (c .before .before .args .block))) 512 (c .if1 .taken))
 
 returns-2 : tie.Need-returns-2
-unfolding cardTold readCard orRefuse
+unfolding cardTold readBy orRefuse
 returns-2 c =
     let e = c .before .before .before .before in
     let wrong : eqb (fieldsOf (read e) .check) (blockCheck (e .before .before .args .tag) (read e)) ≡ false =
@@ -50,7 +50,7 @@ returns-2 c =
     rw (long e, wrong)
 
 returns-3 : tie.Need-returns-3
-unfolding cardTold readCard orRefuse
+unfolding cardTold readBy orRefuse
 returns-3 c =
     let t = c .before .before in
     let e = t .before .before .before .before in
@@ -60,7 +60,7 @@ returns-3 c =
     rw (long e, right t, unknown)
 
 returns-4 : tie.Need-returns-4
-unfolding cardTold readCard orRefuse
+unfolding cardTold readBy orRefuse
 returns-4 c =
     let k = c .before .before .before in
     let t = k .before .before in
@@ -69,7 +69,7 @@ returns-4 c =
     rw (long e, right t, kind k, other)
 
 returns-5 : tie.Need-returns-5
-unfolding cardTold readCard orRefuse
+unfolding cardTold readBy orRefuse
 returns-5 c =
     let z = c .before .before in
     let k = z .before .before .before in
@@ -80,7 +80,7 @@ returns-5 c =
     rw (long e, right t, kind k, zero-rest z, large)
 
 returns-6 : tie.Need-returns-6
-unfolding readCard orRefuse
+unfolding readBy orRefuse
 returns-6 c =
     let z = c .before .before .before in
     let k = z .before .before .before in

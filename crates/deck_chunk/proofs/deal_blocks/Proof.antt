@@ -7,7 +7,8 @@ use denote.Ref.{now}
 use lib.ListN.{length}
 use borrow.Author.Needs.{needs}
 use Rattle.deck_line.specs.Line.{longestLine}
-use Rattle.deck_chunk.specs.Deck.{table, begun, cut, dealBlocks}
+use Rattle.deck_block.specs.Blocks.{begun, cut}
+use Rattle.deck_chunk.specs.Deck.{table, dealBlocks}
 use Rattle.deck_chunk.specs.Code.{DoneMeets}
 use Rattle.deck_chunk.proofs.Laws.{OnTheWay, begins, goes-on, ends-there}
 use Rattle.deck_chunk.proofs.deal_blocks.Statement.{statement}

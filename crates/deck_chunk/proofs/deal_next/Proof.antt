@@ -10,8 +10,9 @@ use borrow.Author.Needs.{needs}
 use Rattle.deck.specs.Bench.{nextNumber, nextDeal}
 use Rattle.deck_line.specs.declared.Line.{Line}
 use Rattle.deck_line.specs.Line.{lineText, longestLine}
-use Rattle.deck_chunk.specs.Deck.{table, isShort, dealNext}
-use Rattle.deck_chunk.specs.Code.{blockAt, LinedMeets, NextMeets}
+use Rattle.deck_block.specs.Blocks.{isShort, blockAt}
+use Rattle.deck_chunk.specs.Deck.{table, dealNext}
+use Rattle.deck_chunk.specs.Code.{LinedMeets, NextMeets}
 use Rattle.deck_chunk.proofs.Laws.{whole-part, lined-short, next-none, next-one}
 use Rattle.deck_chunk.proofs.deal_next.Statement.{statement}
 use Rattle.deck_chunk.proofs.deal_next.Tie as tie

@@ -6,7 +6,7 @@ use lib.ListN.{length}
 use borrow.Author.Needs.{needs}
 use borrow.Author.Tests.{lt-ltb, le-ltb}
 use Rattle.deck_line.specs.Line.{longestLine}
-use Rattle.deck_chunk.specs.Deck.{begun}
+use Rattle.deck_block.specs.Blocks.{begun}
 use Rattle.deck_chunk.proofs.Laws.{too-short, all-dealt}
 use Rattle.deck_chunk.proofs.Deck.deal_chunk.Statement.{statement}
 use Rattle.deck_chunk.proofs.Deck.deal_chunk.Tie as tie
