@@ -1,15 +1,13 @@
 // Deals the deck on standard input to a stand-in head, and prints a line for each block.
-mod input;
-mod output;
-
 use deck::bench::Bench;
 use deck_chunk::ChunkAnswer;
 use deck_chunk::Deck;
-use input::fill;
-use input::to_deal;
-use input::within;
-use libc::STDERR_FILENO;
-use output::write_lines;
+use deck_io::complaint::complain;
+use deck_io::complaint::complain_of;
+use deck_io::input::fill;
+use deck_io::input::usable_bytes;
+use deck_io::output::write_out;
+use deck_io::within;
 
 // The deck after a chunk, and whether there may be more of it.
 struct Turn {
@@ -17,25 +15,23 @@ struct Turn {
     goes_on: bool,
 }
 
-fn complain(message: &[u8]) {
-    io::write_all(STDERR_FILENO, message);
-}
-
 fn say_unread(dealt: u64) {
-    complain(b"bench: blocks that were dealt before that: ");
-    io::print_decimal(STDERR_FILENO, dealt);
-    complain(b"; what was read behind them was not; deal the deck again from its first block\n");
+    complain_of(
+        b"bench: blocks that were dealt before that: ",
+        dealt,
+        b"; what was read behind them was not; deal the deck again from its first block\n",
+    );
 }
 
 // Whether the lines were written; where they were not, what to do is said behind the reason.
 fn print_lines(lines: &[u8]) -> bool {
-    let is_written = write_lines(lines);
-    if !is_written {
+    let output = write_out(lines, b"bench: a line could not be written");
+    if output.is_shut {
         complain(
             b"bench: not every line could be written; run it again with an output that takes them\n",
         );
     }
-    is_written
+    !output.is_shut
 }
 
 // There is room for the lines of every block of a chunk, so that it is not refused.
@@ -71,9 +67,9 @@ fn deal_once(
     flash: &mut [u8; 65536],
     store: &mut [u8; 65536],
 ) -> Turn {
-    let input = fill(chunk);
+    let input = fill(chunk, b"bench: the deck could not be read on");
     let blocks: &[u8] = chunk;
-    let count = within(to_deal(input), blocks);
+    let count = within(usable_bytes(input), blocks);
     let turn = deal_and_print(deck, &blocks[..count], lines, flash, store);
     let next = turn.deck;
     if input.has_failed {

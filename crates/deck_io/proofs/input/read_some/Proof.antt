@@ -3,8 +3,8 @@ use Prim.Native.Nat.{_-_}
 use mathlib.Core.Path.{_≡_, refl}
 use lib.ListN.{length}
 use borrow.Author.Needs.{needs}
-use Rattle.bench.proofs.input.read_some.Statement.{statement}
-use Rattle.bench.proofs.input.read_some.Tie as tie
+use Rattle.deck_io.proofs.input.read_some.Statement.{statement}
+use Rattle.deck_io.proofs.input.read_some.Tie as tie
 
 abbrev Inv-loop : tie.InvT-loop
 Inv-loop rest₀ got₀ counter₀ rest got counter = length rest ≡ length rest₀

@@ -1,8 +1,8 @@
 -- So many writes and no more.
 use Prim.Native.Nat.{_-_}
 use borrow.Author.Needs.{needs}
-use Rattle.bench.proofs.output.write_some.Statement.{statement}
-use Rattle.bench.proofs.output.write_some.Tie as tie
+use Rattle.deck_io.proofs.output.write_some.Statement.{statement}
+use Rattle.deck_io.proofs.output.write_some.Tie as tie
 
 abbrev Inv-loop : tie.InvT-loop
 Inv-loop rest put₀ counter₀ put counter = Unit {0}

@@ -1,28 +1,22 @@
 // Standard input in chunks of whole blocks, whatever the reads bring.
+use crate::MOST_TRIES;
 use libc::EINTR;
 use libc::STDIN_FILENO;
+ghost use Prim.Native.Nat.{_+_, _<_};
 ghost use mathlib.Core.Path.{_≡_};
-ghost use Rattle.io.specs.Counts.{Counts};
-ghost use Rattle.bench.specs.Input.{toDeal};
+ghost use lib.ListN.{length};
+ghost use Rattle.deck_io.specs.Moved.{Moved, Moving, EndsIf};
+ghost use Rattle.deck_io.specs.Input.{usableBytes};
 
-pub(crate) const BLOCK: usize = 512;
+const BLOCK: usize = 512;
 
-pub(crate) const CHUNK: usize = 8192;
-
-pub(crate) const MOST_TRIES: usize = 1000;
+const CHUNK: usize = 8192;
 
 // How many bytes of the chunk were read, and whether the input is over or could not be read on.
-pub(crate) struct Input {
+pub struct Input {
     pub count: usize,
     pub is_over: bool,
     pub has_failed: bool,
-}
-
-// `n`, or the slice's length where that is less.
-pub(crate) fn within(n: usize, s: &[u8]) -> usize
-    ensures { λ r. ⌜ Counts r (now (s .entry)) ⌝ }
-{
-    if n < s.len() { n } else { s.len() }
 }
 
 // A read that a signal interrupts is made again, though not for ever.
@@ -38,30 +32,29 @@ fn read_some(rest: &mut [u8]) -> isize {
 }
 
 // One read behind the bytes that are there.
-fn read_behind(chunk: &mut [u8], input: Input) -> Input {
-    let at = within(input.count, chunk);
+fn read_behind(chunk: &mut [u8], at: usize, why: &[u8]) -> Input
+    requires { ⌜ at < length (now chunk) ⌝ }
+    ensures { λ r. ⌜ Moving (r .«is_over») (at + 1) (r .count) (length (now (chunk .entry))) ⌝ }
+    ensures { λ r. ⌜ EndsIf (r .«has_failed») (r .«is_over») ⌝ }
+{
     let rest = &mut chunk[at..];
     let got = read_some(rest);
     if got < 0 {
-        os::fail(b"bench: the deck could not be read on");
-    }
-    if got <= 0 {
-        return Input {
-            count: at,
-            is_over: true,
-            has_failed: got < 0,
-        };
+        os::fail(why);
     }
     let more = io::count(got, rest);
     Input {
         count: at + more,
-        is_over: false,
-        has_failed: false,
+        is_over: more == 0,
+        has_failed: got < 0,
     }
 }
 
-// Fills the chunk, up to the end of the input. Every read before that brings a byte at least.
-pub(crate) fn fill(chunk: &mut [u8; 8192]) -> Input {
+// Fills the chunk, up to the end of the input. Where a read fails, `why` is said before the system's reason.
+pub fn fill(chunk: &mut [u8; 8192], why: &[u8]) -> Input
+    ensures { λ r. ⌜ Moved (r .«is_over») (r .count) 8192 ⌝ }
+    ensures { λ r. ⌜ EndsIf (r .«has_failed») (r .«is_over») ⌝ }
+{
     let mut input = Input {
         count: 0,
         is_over: false,
@@ -71,14 +64,14 @@ pub(crate) fn fill(chunk: &mut [u8; 8192]) -> Input {
         if input.is_over || input.count >= CHUNK {
             return input;
         }
-        input = read_behind(chunk, input);
+        input = read_behind(chunk, input.count, why);
     }
     input
 }
 
 // All that was read; where a read failed, its whole blocks, since the one behind them need not be the deck's last.
-pub(crate) fn to_deal(input: Input) -> usize
-    ensures { λ r. ⌜ r ≡ toDeal (input .«has_failed») (input .count) ⌝ }
+pub fn usable_bytes(input: Input) -> usize
+    ensures { λ r. ⌜ r ≡ usableBytes (input .«has_failed») (input .count) ⌝ }
 {
     if input.has_failed {
         return input.count / BLOCK * BLOCK;

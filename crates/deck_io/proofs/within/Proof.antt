@@ -2,8 +2,8 @@
 use native.Mathlib.Omega.{arith}
 use lib.ListN.{length-take}
 use borrow.Author.Needs.{needs}
-use Rattle.bench.proofs.input.within.Statement.{statement}
-use Rattle.bench.proofs.input.within.Tie as tie
+use Rattle.deck_io.proofs.within.Statement.{statement}
+use Rattle.deck_io.proofs.within.Tie as tie
 
 pub within-spec : {M : Type 1} → statement M
 within-spec = tie.close (tie.spec (λ c. (omega arith, simp length-take (omega arith))) (λ c. (omega arith, simp length-take (omega arith))))

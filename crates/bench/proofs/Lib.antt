@@ -1,2 +1,0 @@
--- `Wrong` has programs that the contract of `to_deal` rules out.
-pub mod Wrong

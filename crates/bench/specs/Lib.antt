@@ -1,2 +1,0 @@
--- `Input` has how much is dealt of what was read.
-pub mod Input
