@@ -22,7 +22,8 @@
 -- they do, for the runs that are called. A deck: `BenchStart` has the flash that a bench starts with, `ByRequest` that what holds of operations and
 -- uploads holds of blocks, `BetweenBlocks` what holds between one block and the next, `DeckRefusals` the refusals that the bench can meet,
 -- `DeckNeverShort` that it meets no short transfer and that its lines are as they were, `BlockNumbers` each block's number and tag, `AnyChunks` that
--- any chunks give the lines of the whole, `DeckLines` where the lines end, `DeckMakes` that the device's record is one that calls from a fresh start
+-- any chunks give the lines of the whole, `DeckLines` where the lines end, `OutOfPlace` that a block at another place is told as 40, `RecheckedDecks` what is
+-- written of a deck that is rechecked, `DealsAsBefore` that it then does what it did before, `DeckMakes` that the device's record is one that calls from a fresh start
 -- can make.
 pub mod CutIntoTransfers
 pub mod BehindTheImage
@@ -86,3 +87,6 @@ pub mod BlockNumbers
 pub mod AnyChunks
 pub mod DeckLines
 pub mod DeckMakes
+pub mod OutOfPlace
+pub mod RecheckedDecks
+pub mod DealsAsBefore
