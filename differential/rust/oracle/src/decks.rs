@@ -1,25 +1,34 @@
 //! The current deck: the Rust's default device, and blocks dealt to it. What the Rust has none of is worked out here
 //! from the rules: the block's number and tag, and 40 to 45.
 
+use std::ops::Range;
+
 use crate::{
     operations,
     stand::Stand,
-    text::{Answer, Reason, Stop, Tokens},
+    text::{Answer, Reason, Stop, Tokens, hex},
 };
 
 pub const BLOCK: usize = 512;
+/// A block's bytes before its check.
+pub const CHECKED: usize = 510;
 const STORE: usize = 65_536;
 const MOST_SECTORS: u16 = 16;
 const MOST_IMAGE: u32 = 8_192;
 const MOST_RESET: u8 = 4;
 
-/// CRC-16/IBM-3740, bit by bit.
-pub fn check(bytes: &[u8]) -> u16 {
-    bytes.iter().fold(0xffff, |crc, byte| {
+/// CRC-16/IBM-3740 of parts one after the other, bit by bit.
+pub fn check(parts: [&[u8]; 2]) -> u16 {
+    parts.into_iter().flatten().fold(0xffff, |crc, byte| {
         (0..8).fold(crc ^ (u16::from(*byte) << 8), |crc: u16, _| {
             if crc & 0x8000 == 0 { crc << 1 } else { (crc << 1) ^ 0x1021 }
         })
     })
+}
+
+/// The check that the block with this tag must have, over the tag and the bytes before the check.
+pub fn block_check(tag: u32, block: &[u8]) -> [u8; 2] {
+    check([&tag.to_be_bytes(), &block[..CHECKED]]).to_be_bytes()
 }
 
 pub struct Deck {
@@ -54,18 +63,18 @@ fn fields(block: &[u8]) -> Fields {
 }
 
 /// The block's own first broken rule, or what it asks for.
-fn read(block: &[u8]) -> Result<Fields, u8> {
+fn read(tag: u32, block: &[u8]) -> Result<Fields, u8> {
     if block.len() < BLOCK {
         return Err(44);
     }
-    if check(&block[..510]).to_be_bytes() != block[510..] {
+    if block_check(tag, block) != block[CHECKED..] {
         return Err(40);
     }
     let asks = fields(block);
     if !(1..=13).contains(&asks.kind) {
         return Err(41);
     }
-    if block[8..510].iter().any(|byte| *byte != 0) {
+    if block[8..CHECKED].iter().any(|byte| *byte != 0) {
         return Err(42);
     }
     let is_long = match asks.kind {
@@ -82,9 +91,9 @@ fn read(block: &[u8]) -> Result<Fields, u8> {
     Ok(asks)
 }
 
-/// The bytes that a block's operation is to move, where it is one over sectors.
-pub fn sector_bytes(block: &[u8]) -> Option<u64> {
-    let asks = read(block).ok()?;
+/// The bytes that the operation of the block with this tag is to move, where it is one over sectors.
+pub fn sector_bytes(tag: u32, block: &[u8]) -> Option<u64> {
+    let asks = read(tag, block).ok()?;
     matches!(asks.kind, 7 | 8).then_some(u64::from(asks.half) * 512)
 }
 
@@ -147,7 +156,7 @@ impl Deck {
         self.is_open = block.len() == BLOCK;
         self.number += 1;
         self.tag = self.tag.wrapping_add(1);
-        let came = match read(&block) {
+        let came = match read(self.tag, &block) {
             Ok(asks) => value(asks.kind, &self.carry_out(&asks)?),
             Err(refusal) => format!("{refusal} -"),
         };
@@ -158,4 +167,36 @@ impl Deck {
         tokens.end()?;
         Ok(self.shown())
     }
+}
+
+/// A line that deals a block right for the one tag, as the line that deals it right for the other; any other as it is.
+fn moved(line: &str, from: u32, to: u32) -> String {
+    let block = line.strip_prefix("blk ").and_then(|data| Tokens::new(data).data().ok());
+    match block {
+        Some(mut block) if block.len() == BLOCK && block_check(from, &block) == block[CHECKED..] => {
+            let check = block_check(to, &block);
+            block[CHECKED..].copy_from_slice(&check);
+            format!("blk x{}", hex(&block))
+        }
+        _ => line.into(),
+    }
+}
+
+/// The lines without some of them: a block that was right at its place is right at the one that it then has.
+pub fn without(lines: &[String], dropped: Range<usize>) -> Vec<String> {
+    let (mut from, mut to) = (0, 0);
+    let mut kept = Vec::new();
+    for (at, line) in lines.iter().enumerate() {
+        let is_kept = !dropped.contains(&at);
+        if line == "dck" {
+            (from, to) = (0, if is_kept { 0 } else { to });
+        }
+        let is_block = line.starts_with("blk ");
+        from += u32::from(is_block);
+        to += u32::from(is_block && is_kept);
+        if is_kept {
+            kept.push(moved(line, from, to));
+        }
+    }
+    kept
 }

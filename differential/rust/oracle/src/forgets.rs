@@ -72,7 +72,9 @@ pub fn is_short(line: &str, rust: &str) -> bool {
 
 fn is_short_block(line: &str, rust: &str) -> Option<bool> {
     let data = line.strip_prefix("blk ")?;
-    let moved = number(rust.split(' ').nth(2)?)?;
+    let mut words = rust.split(' ');
+    let tag = number(words.next()?)? as u32;
+    let moved = number(words.nth(1)?)?;
     let block = Tokens::new(data).data().ok()?;
-    Some(moved < decks::sector_bytes(&block)?)
+    Some(moved < decks::sector_bytes(tag, &block)?)
 }

@@ -2,7 +2,7 @@
 
 mod nor;
 
-use std::{fs, io};
+use std::{collections::BTreeMap, fs, io};
 
 use rockusb::{
     device::Transport,
@@ -15,6 +15,7 @@ use crate::{
     bounds::bound,
     cases::{ALL, Kind, SAMPLE_SEED, generate, make::Case},
     compare::{Count, is_kept},
+    decks,
     forgets::{forgets, is_same, is_short, shows},
     oracle::{LINE_LIMIT, Oracle, PANIC, caught, outside},
     scale::{LEAST_SHORT, wrong_short},
@@ -34,6 +35,7 @@ pub fn selftest(page: &str) -> io::Result<bool> {
         ("one tag is drawn by each constructor", draws()),
         ("generated cases are of the language", generated()),
         ("samples hold no `outside` and answer as in their full cases", samples()),
+        ("a block's check is that of its place alone", places()),
         ("58 and 59 leave the device and the upload as the rules say", refused_by_the_store()),
         ("cases reach 65,536 sectors, data of 65,535 and a budget of 10,000", reached()),
         ("a reason above its bound fails a run, and so does a panic", bounded()),
@@ -126,6 +128,33 @@ fn documented_deck() -> Vec<String> {
     let wanted = ["1 0 0900000000000000", "2 0 512", "3 57 -"];
     let got: Vec<&String> = dealt.iter().skip(1).step_by(2).collect();
     if got == wanted { Vec::new() } else { vec![format!("the rules' deck: {got:?}")] }
+}
+
+/// Which blocks of the cases out of place, the last eight that need no seed, are 40 (`x`).
+fn places() -> Vec<String> {
+    let mut bad = same_checks();
+    let wanted = ["xx---", "--xx", "---xxx", "xxxxx", "xxxxx", "xxxxx", "xxxxx", "xxxxx"];
+    let cases = Kind::Decks.exhaustive();
+    for (case, wanted) in cases[cases.len() - wanted.len()..].iter().zip(wanted) {
+        let mut oracle = Oracle::default();
+        let dealt = case.iter().map(|line| oracle.answer(line)).skip(1).step_by(2);
+        let got: String = dealt.map(|line| if line.ends_with(" 40 -") { 'x' } else { '-' }).collect();
+        hold(&mut bad, "blocks out of place", &got, wanted);
+    }
+    bad
+}
+
+/// Up to 65,535 every tag gives a block another check, and 39,360 alone the one over the bytes alone. Above there are tags
+/// with the same check.
+fn same_checks() -> Vec<String> {
+    let block = [0x5a; decks::BLOCK];
+    let of = |tag: u32| u16::from_be_bytes(decks::block_check(tag, &block));
+    let tags: BTreeMap<u16, u32> = (1..=65_535).map(|tag| (of(tag), tag)).collect();
+    let without = tags.get(&decks::check([&[], &block[..decks::CHECKED]]));
+    if tags.len() == 65_535 && without == Some(&39_360) && of(1) == of(69_664) {
+        return Vec::new();
+    }
+    vec![format!("{} checks, without a tag that of {without:?}", tags.len())]
 }
 
 fn draws() -> Vec<String> {

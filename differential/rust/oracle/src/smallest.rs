@@ -8,6 +8,7 @@ use std::{
 use crate::{
     asking::{Difference, differ},
     cases::make::Case,
+    decks,
 };
 
 /// The two sides are asked no more for the differences of a kind after so long.
@@ -58,8 +59,7 @@ impl Search<'_> {
         while size > 0 {
             let mut at = 0;
             while at + size < self.best.case.len() {
-                let mut case = self.best.case.clone();
-                case.drain(at..at + size);
+                let case = decks::without(&self.best.case, at..at + size);
                 if !self.took(case)? {
                     at += size;
                 }

@@ -30,8 +30,8 @@ fn hex(bytes: &[u8]) -> String {
     bytes.iter().map(|b| format!("{b:02x}")).collect()
 }
 
-fn value(state: &mut MockState, block: &[u8; 512]) -> Dealt<String> {
-    if original::check(&block[..510]).to_be_bytes() != block[510..] {
+fn value(state: &mut MockState, tag: u32, block: &[u8; 512]) -> Dealt<String> {
+    if original::block_check(tag, block) != block[510..] {
         return Err(40);
     }
     if !(1..=11).contains(&block[0]) {
@@ -71,11 +71,11 @@ fn main() -> io::Result<()> {
     let mut input = BufReader::with_capacity(1 << 16, io::stdin().lock());
     let mut out = BufWriter::with_capacity(1 << 16, io::stdout().lock());
     let mut block = [0; 512];
-    for number in 1.. {
+    for number in 1u64.. {
         if input.read_exact(&mut block).is_err() {
             break;
         }
-        match value(mock.device().transport_mut(), &block) {
+        match value(mock.device().transport_mut(), number as u32, &block) {
             Ok(value) => writeln!(out, "{number} 0 {value}")?,
             Err(refusal) => writeln!(out, "{number} {refusal} -")?,
         }

@@ -33,14 +33,15 @@ const DEALT: [(u8, u32, u16, u8); 13] = [
     (11, 0, 0, 1),
 ];
 
-fn block(kind: u8, word: u32, half: u16, byte: u8) -> [u8; 512] {
+fn block(tag: u32) -> [u8; 512] {
+    let (kind, word, half, byte) = DEALT[(tag as usize - 1) % DEALT.len()];
     let mut block = [0; 512];
     block[0] = kind;
     block[1..5].copy_from_slice(&word.to_be_bytes());
     block[5..7].copy_from_slice(&half.to_be_bytes());
     block[7] = byte;
-    let check = original::check(&block[..510]);
-    block[510..].copy_from_slice(&check.to_be_bytes());
+    let check = original::block_check(tag, &block);
+    block[510..].copy_from_slice(&check);
     block
 }
 
@@ -54,8 +55,7 @@ pub fn measured(turns: usize) -> io::Result<Row> {
     let bench = PathBuf::from(env::var("BENCH").map_err(io::Error::other)?);
     let theirs = env::current_exe()?.with_file_name("dealt");
     let deck = env::current_exe()?.with_file_name("speed.deck");
-    let dealt = |i: usize| DEALT[i % DEALT.len()];
-    let blocks: Vec<u8> = (0..BLOCKS).map(dealt).flat_map(|(k, w, h, b)| block(k, w, h, b)).collect();
+    let blocks: Vec<u8> = (1..=BLOCKS as u32).flat_map(block).collect();
     fs::write(&deck, blocks)?;
     let (mut proved, mut original) = (f64::INFINITY, f64::INFINITY);
     for _ in 0..turns {

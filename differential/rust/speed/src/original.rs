@@ -20,6 +20,14 @@ pub fn check(bytes: &[u8]) -> u16 {
     digest.finalize()
 }
 
+/// The check of a deck's block, over its tag and its bytes before the check.
+pub fn block_check(tag: u32, block: &[u8; 512]) -> [u8; 2] {
+    let mut digest = CRC.digest();
+    digest.update(&tag.to_be_bytes());
+    digest.update(&block[..510]);
+    digest.finalize().to_be_bytes()
+}
+
 /// Steps to the finish; what the last transfer began with, and how many there were.
 fn drive(mut operation: MaskRomOperation<'_>) -> ([u8; 2], u32) {
     let (mut last, mut transfers) = ([0; 2], 0);

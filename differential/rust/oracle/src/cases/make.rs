@@ -13,6 +13,11 @@ impl Rng {
         Rng(seed)
     }
 
+    /// One to draw apart from this one, whose draws stay the same.
+    pub fn apart(&self) -> Rng {
+        Rng(!self.0)
+    }
+
     pub fn next(&mut self) -> u64 {
         self.0 = self.0.wrapping_add(0x9e37_79b9_7f4a_7c15);
         let mut z = self.0;
