@@ -1,13 +1,12 @@
 // One block of a deck: what it asks for, or the first of its rules that it breaks.
+pub mod check;
+
 ghost use mathlib.Core.Path.{_≡_};
 ghost use Prim.Native.Nat.{_≤_};
 ghost use lib.ListN.{length};
 ghost use Rattle.promise.specs.Told.{number};
-ghost use Rattle.deck_block.specs.Block.{fieldsOf, allZero, isKind, tooLarge, blockCheck};
+ghost use Rattle.deck_block.specs.Block.{fieldsOf, allZero, isKind, tooLarge};
 ghost use Rattle.deck_block.specs.Reading.{cardTold, resetRequest, switchRequest, requestOf, readCard};
-
-pub mod check;
-
 use check::block_check;
 use protocol_bytes::order::u16_from_be_bytes;
 use protocol_bytes::order::u32_from_be_bytes;
