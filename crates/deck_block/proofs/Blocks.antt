@@ -49,7 +49,7 @@ unfolding cut
 no-blocks input e = ap blocksOf (no-bytes input e)
 
 -- whole blocks, joined, are the blocks of what they make
-one-block : (block : List ℕ) → length block ≡ blockLength → blocksOf block ≡ block ∷ []
+pub one-block : (block : List ℕ) → length block ≡ blockLength → blocksOf block ≡ block ∷ []
 unfolding cut
 one-block block long =
     let one : begun (length block) ≡ 1 = omega arith in

@@ -1,5 +1,5 @@
--- Programs that the contracts of `usable_bytes`, `fill` and `write_out` rule out, whatever their proofs.
-use Prim.Native.Nat.{ℕ}
+-- Programs that the contracts of `within`, `usable_bytes`, `fill` and `write_out` rule out, whatever their proofs.
+use Prim.Native.Nat.{ℕ, min}
 use mathlib.Core.Path.{_≡_, refl}
 use mathlib.Core.Bool.{true, false}
 use native.Mathlib.Omega.{arith}
@@ -32,3 +32,10 @@ rest-not-written m = let e = m .1 refl in omega arith
 -- a read that has failed taken for one of many: the blocks behind the gap would be told with the numbers of those that are lost
 pub read-on-behind-a-gap : EndsIf true false → ⊥
 read-on-behind-a-gap m = let e = m refl in let z : _≡_ {A = ℕ} 0 1 = cc in omega arith
+
+-- the slice's length whatever is asked, and what is asked whatever the length
+pub always-all : (r : ℕ) → r ≡ 8192 → r ≡ min 512 8192 → ⊥
+always-all r e m = omega arith
+
+pub more-than-there-is : (r : ℕ) → r ≡ 8193 → r ≡ min 8193 8192 → ⊥
+more-than-there-is r e m = omega arith

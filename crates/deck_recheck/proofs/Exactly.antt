@@ -6,7 +6,7 @@ use mathlib.Core.List.{List, [], _∷_, _++_, append-assoc, append-nil}
 use native.Mathlib.Omega.{arith}
 use borrow.Author.Tests.{le-ltb, ltb-false, eq-eqb, eqb-true, not-false}
 use lib.Dec.{eqb}
-use lib.ListN.{length, take}
+use lib.ListN.{length, take, drop, drop-of-length-le}
 use Rattle.promise.specs.Told.{Told, given, refused}
 use Rattle.promise.specs.Rules.{pick}
 use Rattle.promise.proofs.Outcome.{on-test, either-way}
@@ -15,8 +15,10 @@ use Rattle.deck_block.specs.Place.{RightAt, RightBefore, RightFrom, RightDeckBe
 use Rattle.deck_block.specs.Blocks.{isShort, blocksOf, joined}
 use Rattle.deck_block.specs.Reading.{readCard, readBefore}
 use Rattle.deck_block.proofs.Rechecked.{as-it-was, whole-block, right-there, reads-as-before}
-use Rattle.deck_block.proofs.Blocks.{blocks-append}
-use Rattle.deck_recheck.specs.Recheck.{Standing, nextNumber, nextTag, behind, Written, written, firstRules, recheckBlock, unlessStopped, recheckNext, thenWrite, recheckBlocks, recheckAll}
+use Rattle.deck_block.proofs.Blocks.{blocks-append, one-block}
+use Rattle.deck_recheck.specs.declared.Recheck.{Recheck}
+use Rattle.deck_recheck.specs.declared.RecheckStep.{RecheckStep}
+use Rattle.deck_recheck.specs.Recheck.{stopTold, Standing, standing, nextNumber, nextTag, behind, Written, written, firstRules, recheckBlock, unlessStopped, recheckNext, thenWrite, recheckBlocks, recheckAll, RecheckMeets}
 use Rattle.deck_recheck.proofs.Laws.{IsStopped, is-short, is-bad, is-right, stopped-for-good}
 
 -- what a rechecked block is: whole, with its bytes before the check as they were, right at this tag and read there as it was read before
@@ -149,3 +151,41 @@ recheck-append (block ∷ xs) ys s =
 
 pub chunk-then : (a b : List ℕ) (s : Standing) → length a % blockLength ≡ 0 → recheckAll (a ++ b) s ≡ thenWrite (recheckAll a s) (λ next. recheckAll b next)
 chunk-then a b s whole = ap (λ (bs : List (List ℕ)). recheckBlocks bs s) (blocks-append a b whole) ∙ recheck-append (blocksOf a) (blocksOf b) s
+
+-- a call that is lent one block, by any caller whose deck has not stopped
+module _ (r : RecheckStep) (after block : List ℕ) (deck : Recheck) (going : stopTold (deck .stop) (deck .number) ≡ given tt) (long : length block ≡ blockLength)
+    (m : RecheckMeets r after block (recheckAll block (standing deck))) where
+  abbrev told : Told Unit
+  told = stopTold (r .recheck .stop) (r .recheck .number)
+
+  it-alone : recheckAll block (standing deck) ≡ recheckNext block (standing deck)
+  unfolding recheckBlocks
+  it-alone =
+      ap (λ (bs : List (List ℕ)). recheckBlocks bs (standing deck)) (one-block block long)
+      ∙ ap (λ (l : List ℕ). written l (recheckNext block (standing deck) .leaves)) (append-nil (recheckNext block (standing deck) .bytes))
+
+  comes-to : (w : Written) → recheckNext block (standing deck) ≡ w → RecheckMeets r after block w
+  comes-to w e = subst (λ (v : Written). RecheckMeets r after block v) (it-alone ∙ e) m
+
+  -- it is rechecked only if its first check is right ..
+  pub rechecked-only-right : told ≡ given tt → RightBefore block
+  rechecked-only-right goes =
+      only-right block (standing deck) (ap (λ (s : Standing). s .told) (sym (comes-to (recheckNext block (standing deck)) refl .next)) ∙ goes) .1
+
+  -- .. and then it is what a rechecked block is
+  pub rechecked-if-right : RightBefore block → (told ≡ given tt) × ((r .bytes ≡ blockLength) × Rechecked (nextTag (standing deck)) block after)
+  rechecked-if-right right =
+      let enough : blockLength ≤ length block = omega arith in
+      let came = comes-to _ (right-rechecked block (standing deck) going enough right) in
+      let new = rechecked-block (nextTag (standing deck)) block enough right in
+      let bytes = withCheck (nextTag (standing deck)) block in
+      let none : drop (length bytes) block ≡ [] = drop-of-length-le block {i = length bytes} (let w = new .whole in omega arith) in
+      let all : after ≡ bytes = came .leaves ∙ ap (λ (l : List ℕ). bytes ++ l) none ∙ append-nil bytes in
+      (ap (λ (s : Standing). s .told) (came .next), (came .bytes ∙ new .whole, subst (Rechecked (nextTag (standing deck)) block) (sym all) new))
+
+  -- else it is refused as 40 with its number, and as it was
+  pub refused-if-wrong : (RightBefore block → ⊥) → (told ≡ refused 40 (nextNumber (standing deck) ∷ [])) × ((r .bytes ≡ 0) × (after ≡ block))
+  refused-if-wrong wrong =
+      let whole : isShort block ≡ false = le-ltb (length block) blockLength (omega arith) in
+      let came = comes-to _ (wrong-stops block (standing deck) going (λ both. wrong (both .1))) in
+      (ap (λ (s : Standing). s .told) (came .next) ∙ ap {B = Told Unit} (λ (b : Bool). refused (pick b 44 40) (nextNumber (standing deck) ∷ [])) whole, (came .bytes, came .leaves))

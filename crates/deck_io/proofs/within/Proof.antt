@@ -6,4 +6,4 @@ use Rattle.deck_io.proofs.within.Statement.{statement}
 use Rattle.deck_io.proofs.within.Tie as tie
 
 pub within-spec : {M : Type 1} → statement M
-within-spec = tie.close (tie.spec (λ c. (omega arith, simp length-take (omega arith))) (λ c. (omega arith, simp length-take (omega arith))))
+within-spec = tie.close (tie.spec (λ c. ((omega arith, simp length-take (omega arith)), omega arith)) (λ c. ((omega arith, simp length-take (omega arith)), omega arith)))
