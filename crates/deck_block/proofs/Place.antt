@@ -9,7 +9,7 @@ use borrow.Author.Tests.{le-ltb, eqb-true, eq-eqb, ne-eqb}
 use lib.Dec.{lit<, eqb}
 use lib.ListN.{length, take}
 use lib.Bits.{bitXor, xor-shr, xor-mod, xor-self}
-use Rattle.promise.specs.Told.{Told, refused}
+use Rattle.promise.specs.Told.{refused}
 use Rattle.promise.specs.Rules.{orRefuse}
 use Rattle.promise.specs.Bytes.{lowFirst, highFirst}
 use Rattle.promise.proofs.Outcome.{on-test}
@@ -104,6 +104,11 @@ pub refused-elsewhere : (i j : ℕ) (block : List ℕ) → i ≤ 65535 → j ≤
     → readCard j block ≡ refused 40 []
 refused-elsewhere i j block hi hj other long right = refused-apart i j block long right (apart-near i j (omega arith) other)
 
+-- and not among more blocks: a block is read at 65,536 as it is at 4,129
+pub not-beyond : (block : List ℕ) → readCard 65536 block ≡ readCard 4129 block
+unfolding crcOver byteStep bitsStep bitStep highFirst lowFirst
+not-beyond block = read-alike 65536 4129 block refl
+
 -- a whole block that is not refused as 40 is right there
 pub not-40 : (right : ℕ) (block : List ℕ) → blockLength ≤ length block → (readBy right block ≡ refused 40 [] → ⊥) → fieldsOf block .check ≡ right
 not-40 right block long read =
@@ -131,12 +136,15 @@ coincides : tagRegister coinciding ≡ start
 unfolding crcOver byteStep bitsStep bitStep highFirst lowFirst
 coincides = refl
 
+-- so at every other no block is right by both
+pub not-before : (tag : ℕ) (block : List ℕ) → tag ≤ 65535 → (tag ≡ coinciding → ⊥) → RightAt tag block → RightBefore block → ⊥
+not-before tag block small other right before =
+    other (near-one-to-one tag coinciding (omega arith) (first-too tag block (sym right ∙ before) ∙ sym coincides))
+
 -- a block of a deck made before is refused as 40 at every tag up to 65,535 but that one ..
 pub before-refused : (tag : ℕ) (block : List ℕ) → tag ≤ 65535 → (tag ≡ coinciding → ⊥) → blockLength ≤ length block → RightBefore block
     → readCard tag block ≡ refused 40 []
-before-refused tag block small other long right =
-    wrong-check (blockCheck tag block) block long
-    (λ e. other (near-one-to-one tag coinciding (omega arith) (first-too tag block (sym e ∙ right) ∙ sym coincides)))
+before-refused tag block small other long right = wrong-check (blockCheck tag block) block long (λ e. not-before tag block small other e right)
 
 -- .. where every block is read as before
 pub before-read-there : (block : List ℕ) → readCard coinciding block ≡ readBefore block

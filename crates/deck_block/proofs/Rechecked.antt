@@ -14,8 +14,7 @@ use Rattle.promise.proofs.Order.{length-high-first, from-high-first}
 use Rattle.protocol_bytes.proofs.Short.{elements, field-elements}
 use Rattle.crc.specs.Check.{check, start}
 use Rattle.crc.proofs.Laws.{over-lt}
-use Rattle.deck_block.specs.declared.Fields.{Fields}
-use Rattle.deck_block.specs.Block.{blockLength, checkedLength, fieldsOf, blockCheck, withCheck, allZero, isKind, tooLarge}
+use Rattle.deck_block.specs.Block.{blockLength, checkedLength, fieldsOf, blockCheck, withCheck, tooLarge}
 use Rattle.deck_block.specs.Place.{RightAt, RightBefore}
 use Rattle.deck_block.specs.Reading.{requestOf, readBy, readCard, readBefore}
 

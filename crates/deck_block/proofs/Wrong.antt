@@ -1,19 +1,16 @@
 -- Programs that the contracts rule out, whatever their proofs: each answer is refuted at a named block.
 use Prim.Native.Nat.{ℕ, suc, _≤_}
-use mathlib.Core.Path.{_≡_, refl, ap, sym, _∙_}
+use mathlib.Core.Path.{_≡_, refl, sym, _∙_}
 use mathlib.Core.Bool.{not}
 use mathlib.Core.List.{List, [], _∷_, _++_}
 use native.Mathlib.Omega.{arith}
 use borrow.Author.Tests.{eq-eqb}
 use lib.Dec.{lit≤}
-use lib.ListN.{length, take, replicate, length-append}
-use lib.Seq.{take-at, drop-at}
+use lib.ListN.{length, replicate}
 use Rattle.promise.specs.Told.{given, refused, number}
 use Rattle.promise.specs.Rules.{orRefuse, rule, unless}
 use Rattle.promise.specs.Bytes.{field, lowFirst, highFirst, fromLow, fromHigh}
-use Rattle.promise.proofs.Order.{from-high-first}
 use Rattle.crc.specs.Check.{bitStep, bitsStep, byteStep, crcOver, check}
-use Rattle.crc.proofs.Laws.{over-lt}
 use Rattle.deck_block.specs.declared.Request.{Request}
 use Rattle.deck_block.specs.declared.Request.the-variants as request
 use Rattle.deck_block.specs.declared.CardAnswer.{CardAnswer}

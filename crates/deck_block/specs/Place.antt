@@ -24,7 +24,7 @@ abbrev pub RightFrom : ℕ → List (List ℕ) → Type 0
 RightFrom tag [] = Unit
 RightFrom tag (block ∷ blocks) = ((length block ≡ blockLength) × RightAt tag block) × RightFrom (tagAfter tag) blocks
 
--- a deck made before: its blocks are whole, and each has its first check
+-- a deck made before: each block has 512 bytes at least, and its first check
 abbrev pub RightDeckBefore : List (List ℕ) → Type 0
 RightDeckBefore [] = Unit
 RightDeckBefore (block ∷ blocks) = ((blockLength ≤ length block) × RightBefore block) × RightDeckBefore blocks
