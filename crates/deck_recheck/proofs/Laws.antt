@@ -10,11 +10,11 @@ use mathlib.Core.Logic.{_⊎_, inl, inr, ⊎-elim}
 use borrow.Author.Tests.{lt-ltb, le-ltb, ltb-false}
 use borrow.Rule.Slice.PartMut.{putMid}
 use lib.Dec.{eqb}
-use lib.ListN.{length, take, drop, set, length-append, length-take, length-drop, take-append-drop, drop-of-length-le}
+use lib.ListN.{length, take, drop, set, length-take, length-drop, take-append-drop, drop-of-length-le}
 use lib.Seq.{sets-eq, length-take-le, drop-drop}
 use Rattle.promise.specs.Told.{Told, given, refused}
-use Rattle.promise.specs.Rules.{pick, orRefuse}
-use Rattle.promise.specs.Bytes.{highFirst, front}
+use Rattle.promise.specs.Rules.{orRefuse}
+use Rattle.promise.specs.Bytes.{highFirst}
 use Rattle.promise.specs.Over.{over}
 use Rattle.promise.proofs.Outcome.{either-way}
 use Rattle.promise.proofs.Order.{length-high-first}

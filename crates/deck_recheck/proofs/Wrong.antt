@@ -1,21 +1,22 @@
 -- Programs that the contracts rule out, whatever their proofs: each answer is refuted at a named chunk.
 use Prim.Native.Nat.{ℕ, _≤_}
-use mathlib.Core.Path.{_≡_, refl, ap, sym, subst, _∙_}
+use mathlib.Core.Path.{_≡_, refl, ap, sym, _∙_}
 use mathlib.Core.List.{List, [], _∷_, _++_, append-nil}
 use native.Mathlib.Omega.{arith}
 use lib.Dec.{lit≤}
 use lib.ListN.{length, getD, replicate}
-use Rattle.promise.specs.Told.{Told, given, refused, number}
+use Rattle.promise.specs.Told.{given, refused, number}
 use Rattle.promise.specs.Bytes.{front, lowFirst, highFirst, fromLow, fromHigh}
 use Rattle.crc.specs.Check.{bitStep, bitsStep, byteStep, crcOver}
-use Rattle.deck_block.specs.Block.{blockLength, fieldsOf, blockCheck, firstCheck, withCheck}
+use Rattle.deck_block.specs.Block.{fieldsOf, blockCheck, withCheck}
 use Rattle.deck_block.specs.Place.{RightBefore}
 use Rattle.deck_block.specs.Blocks.{cut, blocksOf, joined}
 use Rattle.deck_recheck.specs.declared.Stop.{Stop}
-use Rattle.deck_recheck.specs.declared.Stop.the-variants.{NotYet, BadCheck, Short}
+use Rattle.deck_recheck.specs.declared.Stop.the-variants.{BadCheck, Short}
 use Rattle.deck_recheck.specs.declared.Recheck.{Recheck}
 use Rattle.deck_recheck.specs.declared.RecheckStep.{RecheckStep}
-use Rattle.deck_recheck.specs.Recheck.{stopTold, Standing, standing, newRecheck, behind, Written, written, recheckNext, recheckBlocks, recheckAll, RecheckMeets}
+use Rattle.deck_recheck.specs.Recheck.{stopTold, Standing, standing, newRecheck, behind, Written, written, recheckBlocks, recheckAll, RecheckMeets}
+use Rattle.deck_recheck.proofs.Laws.{stopped-for-good}
 use Rattle.deck_recheck.proofs.Exactly.{right-rechecked, stops-at}
 
 -- zeros with a check of 0, which is wrong, and with their first check
@@ -36,6 +37,10 @@ is-right : RightBefore right
 unfolding fieldsOf fromHigh fromLow crcOver byteStep bitsStep bitStep
 is-right = refl
 
+one-bad : blocksOf bad ≡ bad ∷ []
+unfolding cut
+one-bad = refl
+
 -- the deck is refused as 40 at its first block, whatever follows that
 refused-first : (more : List (List ℕ)) → recheckBlocks (bad ∷ more) fresh ≡ written [] (behind fresh (refused 40 (1 ∷ [])))
 unfolding stopTold joined
@@ -49,6 +54,9 @@ one-block : blocksOf right ≡ right ∷ []
 unfolding cut
 one-block = refl
 
+bad-alone : recheckAll bad fresh ≡ written [] (behind fresh (refused 40 (1 ∷ [])))
+bad-alone = ap (λ (bs : List (List ℕ)). recheckBlocks bs fresh) one-bad ∙ refused-first []
+
 bad-then-right : recheckAll (bad ++ right) fresh ≡ written [] (behind fresh (refused 40 (1 ∷ [])))
 bad-then-right = ap (λ (bs : List (List ℕ)). recheckBlocks bs fresh) two-blocks ∙ refused-first (right ∷ [])
 
@@ -59,9 +67,9 @@ rechecks-right =
     ∙ ap (λ (w : Written). written (w .bytes ++ []) (w .leaves)) (right-rechecked right fresh refl (lit≤ tt) is-right)
     ∙ ap (λ (l : List ℕ). written l (behind fresh (given tt))) (append-nil (withCheck 1 right))
 
--- a wrong first check accepted: bytes of the block are written
-pub wrong-sum-accepted : (r : RecheckStep) (after : List ℕ) → r .bytes ≡ 512 → RecheckMeets r after (bad ++ right) (recheckAll (bad ++ right) fresh) → ⊥
-wrong-sum-accepted r after all m = let n = m .bytes ∙ ap (λ (w : Written). length (w .bytes)) bad-then-right in omega (arith, n, all)
+-- a wrong first check accepted: the block is rechecked
+pub wrong-sum-accepted : (r : RecheckStep) (after : List ℕ) → r .bytes ≡ 512 → RecheckMeets r after bad (recheckAll bad fresh) → ⊥
+wrong-sum-accepted r after all m = let n = m .bytes ∙ ap (λ (w : Written). length (w .bytes)) bad-alone in omega (arith, n, all)
 
 -- on behind a bad block: the second block is looked at
 pub on-behind-a-bad-block : (r : RecheckStep) (after : List ℕ) → r .recheck .number ≡ 2 → RecheckMeets r after (bad ++ right) (recheckAll (bad ++ right) fresh) → ⊥
@@ -69,12 +77,34 @@ on-behind-a-bad-block r after second m =
     let n : r .recheck .number ≡ 1 = ap (λ (s : Standing). s .number) (m .next ∙ ap (λ (w : Written). w .leaves) bad-then-right) in
     omega (arith, n, second)
 
+-- the same in a later call: a block that is lent behind a stop is rechecked
+abbrev stopped : Recheck
+stopped = record { number = 1; tag = 1; stop = BadCheck }
+
+pub on-in-a-later-call : (r : RecheckStep) (after : List ℕ) → r .bytes ≡ 512 → RecheckMeets r after right (recheckAll right (standing stopped)) → ⊥
+unfolding stopTold
+on-in-a-later-call r after all m =
+    let n = m .bytes ∙ ap (λ (w : Written). length (w .bytes)) (stopped-for-good (blocksOf right) (standing stopped) tt) in omega (arith, n, all)
+
 -- doing nothing: the first check left where it was
 pub left-as-it-was : (r : RecheckStep) → RecheckMeets r right right (recheckAll right fresh) → ⊥
 unfolding blockCheck highFirst lowFirst crcOver byteStep bitsStep bitStep
 left-as-it-was r m =
     let same = m .leaves ∙ ap (λ (w : Written). front (w .bytes) right) rechecks-right in
     let z : _≡_ {A = ℕ} 0x44 0x75 = ap (λ (l : List ℕ). getD l 510 0) same in omega arith
+
+-- the check of another place: with the tag before it is counted on, and with that of the next block
+pub tag-not-counted : (r : RecheckStep) → RecheckMeets r (withCheck 0 right) right (recheckAll right fresh) → ⊥
+unfolding blockCheck highFirst lowFirst crcOver byteStep bitsStep bitStep
+tag-not-counted r m =
+    let same = m .leaves ∙ ap (λ (w : Written). front (w .bytes) right) rechecks-right in
+    let z : _≡_ {A = ℕ} 0xdf 0x75 = ap (λ (l : List ℕ). getD l 510 0) same in omega arith
+
+pub tag-of-the-next : (r : RecheckStep) → RecheckMeets r (withCheck 2 right) right (recheckAll right fresh) → ⊥
+unfolding blockCheck highFirst lowFirst crcOver byteStep bitsStep bitStep
+tag-of-the-next r m =
+    let same = m .leaves ∙ ap (λ (w : Written). front (w .bytes) right) rechecks-right in
+    let z : _≡_ {A = ℕ} 0x9a 0x75 = ap (λ (l : List ℕ). getD l 510 0) same in omega arith
 
 -- every block refused
 pub always-refusing : (r : RecheckStep) (after : List ℕ) → r .recheck .stop ≡ BadCheck → RecheckMeets r after right (recheckAll right fresh) → ⊥

@@ -1,7 +1,7 @@
 -- What the private functions of the code promise.
 use Prim.Native.Nat.{ℕ, _+_, _≤_}
 use mathlib.Core.Path.{_≡_}
-use mathlib.Core.Bool.{Bool, true, false}
+use mathlib.Core.Bool.{Bool}
 use mathlib.Core.List.{List}
 use lib.Dec.{eqb}
 use lib.ListN.{length}
@@ -10,7 +10,7 @@ use Rattle.promise.specs.Over.{over}
 use Rattle.deck_block.specs.Block.{fieldsOf, firstCheck, withCheck}
 use Rattle.deck_recheck.specs.declared.Stop.{Stop}
 use Rattle.deck_recheck.specs.declared.RecheckStep.{RecheckStep}
-use Rattle.deck_recheck.specs.Recheck.{Standing, standing, Written}
+use Rattle.deck_recheck.specs.Recheck.{standing, Written}
 
 abbrev pub stepAt : ℕ → ℕ → Stop → ℕ → RecheckStep
 stepAt number tag stop bytes = record { bytes = bytes; recheck = record { number = number; tag = tag; stop = stop } }

@@ -1,10 +1,9 @@
 -- What is rechecked and what is left make the whole; the measure is how many bytes are left.
-use Prim.Native.Nat.{ℕ, _-_, _<_}
-use mathlib.Core.Path.{_≡_, refl, sym, _∙_}
+use Prim.Native.Nat.{_-_, _<_}
+use mathlib.Core.Path.{_≡_, _∙_}
 use native.Mathlib.Omega.{arith}
 use denote.Ref.{now}
 use lib.ListN.{length}
-use borrow.Author.Needs.{needs}
 use Rattle.deck_recheck.specs.Recheck.{standing}
 use Rattle.deck_recheck.proofs.Laws.{OnTheWay, begins, ends-there, after-long, goes-on, stops-there}
 use Rattle.deck_recheck.proofs.Recheck.recheck_chunk.Statement.{statement}

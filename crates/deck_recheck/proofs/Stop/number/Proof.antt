@@ -1,5 +1,4 @@
 -- Each arm gives the number that its case tells.
-use Prim.Native.Nat.{ℕ}
 use mathlib.Core.Path.{ap, sym}
 use borrow.Author.Needs.{needs}
 use Rattle.promise.specs.Told.{number}
