@@ -29,6 +29,10 @@ cut-after-a-read m = let e = m .1 refl in omega arith
 pub rest-not-written : Moved false 512 8192 → ⊥
 rest-not-written m = let e = m .1 refl in omega arith
 
+-- more bytes told as read or written than there are, at the end as well
+pub more-than-all : Moved true 8193 8192 → ⊥
+more-than-all m = let fits = m .0 in omega arith
+
 -- a read that has failed taken for one of many: the blocks behind the gap would be told with the numbers of those that are lost
 pub read-on-behind-a-gap : EndsIf true false → ⊥
 read-on-behind-a-gap m = let e = m refl in let z : _≡_ {A = ℕ} 0 1 = cc in omega arith

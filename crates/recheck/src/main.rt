@@ -16,23 +16,26 @@ struct Turn {
     goes_on: bool,
 }
 
+// At block 1 the deck may be one of today: that is refused there, and not at a later block.
 fn say_bad_check(number: u64) {
     complain_of(
         b"recheck: block ",
         number,
-        b": its old check is wrong (40); the blocks before it were written; ",
+        b": its old check is wrong (40); ",
     );
-    complain(b"make it again and recheck the deck from its first block, ");
-    complain(b"or, if the deck has been rechecked already, use it as it is\n");
+    if number == 1 {
+        complain(b"nothing was written; a deck that was rechecked before is dealt as it is; else ");
+    } else {
+        complain(b"the blocks before it were written, and they are not the whole deck; ");
+    }
+    complain(b"copy the old deck again and recheck it from its first block, ");
+    complain(b"or make the deck again from its lines, which then needs no recheck\n");
 }
 
 fn say_short(number: u64) {
-    complain_of(
-        b"recheck: block ",
-        number,
-        b": it is short (44); the blocks before it were written; ",
-    );
-    complain(b"the deck was cut short: copy it again and recheck it from its first block\n");
+    complain_of(b"recheck: block ", number, b": it is short (44); ");
+    complain(b"the blocks before it were written, and they are not the whole deck; ");
+    complain(b"copy the old deck again and recheck it from its first block\n");
 }
 
 fn say_unread(rechecked: u64) {

@@ -1,4 +1,5 @@
 // Old decks rechecked over `deck_recheck`: standard input is one of 18 blocks and a part of the next, and each case begins with it as it was.
+use deck_io::complaint::say_of;
 use deck_io::within;
 use deck_recheck::Recheck;
 use deck_recheck::RecheckStep;
@@ -16,9 +17,7 @@ fn print(text: &[u8]) {
 }
 
 fn print_number(before: &[u8], number: u64, behind: &[u8]) {
-    print(before);
-    io::print_decimal(STDOUT_FILENO, number);
-    print(behind);
+    say_of(STDOUT_FILENO, before, number, behind);
 }
 
 fn print_byte(byte: u8) {

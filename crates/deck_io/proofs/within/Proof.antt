@@ -1,7 +1,6 @@
 -- The lesser of the two is at most the length, and so is a count of the slice's bytes.
 use native.Mathlib.Omega.{arith}
 use lib.ListN.{length-take}
-use borrow.Author.Needs.{needs}
 use Rattle.deck_io.proofs.within.Statement.{statement}
 use Rattle.deck_io.proofs.within.Tie as tie
 
