@@ -1,7 +1,7 @@
 -- A rechecked deck does what the deck did before: the same lines, and the same head behind them.
 use Prim.Native.Nat.{ℕ, _≤_}
-use mathlib.Core.Path.{_≡_, refl, ap, ap₂, sym, subst, _∙_}
-use mathlib.Core.Bool.{Bool, true, false}
+use mathlib.Core.Path.{_≡_, refl, ap, sym, _∙_}
+use mathlib.Core.Bool.{Bool, false}
 use mathlib.Core.List.{List, [], _∷_}
 use native.Mathlib.Omega.{arith}
 use borrow.Author.Tests.{le-ltb}
@@ -10,7 +10,7 @@ use Rattle.promise.specs.Told.{Told}
 use Rattle.deck_block.specs.declared.Request.{Request}
 use Rattle.deck_block.specs.Block.{blockLength, checkedLength, withCheck}
 use Rattle.deck_block.specs.Place.{RightBefore, RightDeckBefore, tagAfter, withChecks}
-use Rattle.deck_block.specs.Blocks.{isShort, blocksOf, joined}
+use Rattle.deck_block.specs.Blocks.{isShort, joined}
 use Rattle.deck_block.specs.Reading.{readCard, readBefore}
 use Rattle.deck_block.proofs.Place.{right-whole}
 use Rattle.deck_block.proofs.Blocks.{blocks-back}

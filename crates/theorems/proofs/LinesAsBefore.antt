@@ -1,4 +1,5 @@
--- The deck goes on with the first variety: its runs are those over the stand-in as it stood before, and so is every line of every input.
+-- The deck goes on with the first variety: its runs are those over the stand-in as it stood before, and so is every line of every input, its blocks
+-- read as they are today.
 use Prim.Native.Nat.{ℕ, zero, suc}
 use mathlib.Core.Path.{_≡_, refl, ap, ap₂, sym, subst, _∙_}
 use mathlib.Core.Bool.{Bool, true, false}

@@ -1,8 +1,10 @@
 -- A deck rechecked in any chunks of whole blocks, the last of which may be of any length: what is written is what is written of the whole.
 use Prim.Native.Nat.{ℕ, _+_, _%_, _^_, _≤_}
 use mathlib.Core.Path.{_≡_, refl, ap, ap₂, sym, subst, _∙_}
+use mathlib.Core.Bool.{Bool, false}
 use mathlib.Core.List.{List, [], _∷_, _++_, append-nil}
 use native.Mathlib.Omega.{arith}
+use borrow.Author.Tests.{le-ltb}
 use lib.ListN.{length, take, drop}
 use lib.Seq.{take-append-seam}
 use Rattle.promise.specs.Told.{Told, given, refused}
@@ -10,12 +12,14 @@ use Rattle.promise.specs.Rules.{pick}
 use Rattle.deck_block.specs.Block.{blockLength}
 use Rattle.deck_block.specs.Place.{RightBefore, RightFrom, RightDeckBefore, withChecks}
 use Rattle.deck_block.specs.Blocks.{isShort, cut, blocksOf, joined}
-use Rattle.deck_block.proofs.Place.{right-whole}
+use Rattle.deck_block.proofs.Place.{not-before, right-whole}
 use Rattle.deck_block.proofs.Blocks.{blocks-back}
 use Rattle.deck_recheck.specs.declared.Recheck.{Recheck}
 use Rattle.deck_recheck.specs.declared.RecheckStep.{RecheckStep}
-use Rattle.deck_recheck.specs.Recheck.{stopTold, Standing, standing, newRecheck, Written, written, thenWrite, recheckBlocks, recheckAll, RecheckMeets}
+use Rattle.deck_recheck.specs.Recheck.{stopTold, Standing, standing, newRecheck, nextNumber, nextTag, Written, written, thenWrite, recheckBlocks, recheckAll, RecheckMeets}
 use Rattle.deck_recheck.proofs.Exactly.{passed, passed-number, going-on, right-deck, stops-at, all-were-right, new-deck-right, chunk-then}
+use Rattle.deck.specs.declared.bench.Bench.{Bench}
+use Rattle.deck.specs.Bench as bench
 use Rattle.theorems.specs.Chunks.{WholeButLast}
 use Rattle.theorems.specs.Rechecks.{Rechecks, no-more, a-chunk}
 
@@ -99,3 +103,17 @@ module _ (start : Recheck) (chunks : List (List ℕ)) (out : List ℕ) (end : Re
       let passes = passed-number before fresh 0 refl in
       let n : (passed before fresh .number + 1) % 2 ^ 64 ≡ (length before + 1) % 2 ^ 64 = omega (arith, passes) in
       (came .0, came .1 ∙ ap {B = Told Unit} (λ (k : ℕ). refused (pick (isShort block) 44 40) (k ∷ [])) n)
+
+  -- a deck that has been rechecked is refused at its first block, and nothing is written
+  pub new-deck-refused : (block : List ℕ) (more : List (List ℕ)) → blocks ≡ block ∷ more → RightFrom 1 (block ∷ more)
+      → (out ≡ []) × (stopTold (end .stop) (end .number) ≡ refused 40 (1 ∷ []))
+  unfolding joined
+  new-deck-refused block more apart right =
+      let whole : isShort block ≡ false = le-ltb (length block) blockLength (let long = right .0 .0 in omega arith) in
+      let came = first-refused [] block more apart tt (λ both. not-before 1 block (omega arith) (λ e. omega arith) (right .0 .1) (both .1)) in
+      (came .0, came .1 ∙ ap {B = Told Unit} (λ (b : Bool). refused (pick b 44 40) (1 ∷ [])) whole)
+
+-- a recheck counts as the bench does
+pub counts-as-the-bench : (r : Recheck) (b : Bench) → r .number ≡ b .number → r .tag ≡ b .tag
+    → (nextNumber (standing r) ≡ bench.nextNumber b) × (nextTag (standing r) ≡ bench.nextTag b)
+counts-as-the-bench r b number tag = (ap (λ (n : ℕ). (n + 1) % 2 ^ 64) number, ap (λ (n : ℕ). (n + 1) % 2 ^ 32) tag)

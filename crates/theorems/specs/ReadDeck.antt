@@ -1,6 +1,5 @@
 -- A deck over any way of reading its blocks: what a block does and the lines of a deck, word for word, but for the reading.
 use Prim.Native.Nat.{ℕ}
-use mathlib.Core.Bool.{Bool, true, false}
 use mathlib.Core.List.{List, [], _∷_}
 use Rattle.promise.specs.Told.{Told}
 use Rattle.promise.specs.Rules.{pick}
