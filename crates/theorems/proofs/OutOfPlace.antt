@@ -1,5 +1,5 @@
 -- A block of a right deck that stands at another place is told as 40 there, up to block 65,535: so the first line that is out of place is, when two
--- blocks are exchanged, one is dropped or one is repeated. So is a block of a deck made before.
+-- blocks are exchanged, one is dropped that was not the last or one is repeated. So is a block of a deck made before, but at 39,360.
 use Prim.Native.Nat.{ℕ, _+_, _%_, _^_, _≤_, _<_}
 use mathlib.Core.Path.{_≡_, refl, ap, ap₂, sym, subst, _∙_}
 use mathlib.Core.Bool.{false}
@@ -112,14 +112,14 @@ lines-40 before block more store whole behind within refuses =
           ∙ ap (λ (l : List ℕ). l ++ (lineText (length before + 1) (refused 40 []) ++ out .0)) (sym (lines-of before whole)),
     )
 
--- a block that is right at place i and stands at another, whatever the blocks around it are
+-- a block that is right at place i and stands at another, whatever the whole blocks around it are
 pub out-of-place : (before : List (List ℕ)) (block : List ℕ) (more : List (List ℕ)) (store : List ℕ) (i : ℕ) → Whole before → Whole (block ∷ more)
     → RightAt i block → i ≤ 65535 → length before + 1 ≤ 65535 → (i ≡ length before + 1 → ⊥) → Told40 before (before ++ block ∷ more) store
 out-of-place before block more store i whole behind right small within other =
     lines-40 before block more store whole behind within
     (refused-elsewhere i (length before + 1) block small within other (let long = behind .0 in omega arith) right)
 
--- a block of a deck made before that is dealt as it is, wherever its check is not the same by its place
+-- a block of a deck made before that is dealt as it is, among whole blocks, at any place but the one where its check is the same
 pub before-told : (before : List (List ℕ)) (block : List ℕ) (more : List (List ℕ)) (store : List ℕ) → Whole before → Whole (block ∷ more)
     → RightBefore block → length before + 1 ≤ 65535 → (length before + 1 ≡ coinciding → ⊥) → Told40 before (before ++ block ∷ more) store
 before-told before block more store whole behind right within other =

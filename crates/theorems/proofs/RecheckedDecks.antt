@@ -113,7 +113,7 @@ module _ (start : Recheck) (chunks : List (List ℕ)) (out : List ℕ) (end : Re
       let came = first-refused [] block more apart tt (λ both. not-before 1 block (omega arith) (λ e. omega arith) (right .0 .1) (both .1)) in
       (came .0, came .1 ∙ ap {B = Told Unit} (λ (b : Bool). refused (pick b 44 40) (1 ∷ [])) whole)
 
--- a recheck counts as the bench does
+-- a recheck counts a block as the bench does
 pub counts-as-the-bench : (r : Recheck) (b : Bench) → r .number ≡ b .number → r .tag ≡ b .tag
     → (nextNumber (standing r) ≡ bench.nextNumber b) × (nextTag (standing r) ≡ bench.nextTag b)
 counts-as-the-bench r b number tag = (ap (λ (n : ℕ). (n + 1) % 2 ^ 64) number, ap (λ (n : ℕ). (n + 1) % 2 ^ 32) tag)
