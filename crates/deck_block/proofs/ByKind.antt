@@ -1,4 +1,4 @@
--- A request kind after kind: what is none of the first twelve is 13. And what stands behind a block that asks for something.
+-- A request kind after kind: what is none of the first eleven is 12. And what stands behind a block that asks for something.
 use Prim.Native.Nat.{ℕ, suc, _≤_}
 use mathlib.Core.Path.{_≡_, refl, ap, _∙_}
 use mathlib.Core.Bool.{Bool, true, false}
@@ -21,12 +21,12 @@ use Rattle.deck_block.specs.Reading.{resetRequest, switchRequest, reques
 further : (i k : ℕ) → i ≤ k → eqb k i ≡ false → suc i ≤ k
 further i k low e = let other = eqb-false k i e in omega arith
 
-known : (k : ℕ) → isKind k ≡ true → (1 ≤ k) × (k ≤ 13)
+known : (k : ℕ) → isKind k ≡ true → (1 ≤ k) × (k ≤ 12)
 unfolding isKind
 known k h =
     on-test (ltb k 1)
     (λ e. let z : false ≡ true = rw e at h in let n : _≡_ {A = ℕ} 0 1 = ap (λ (b : Bool). pick b 1 0) z in absurd (omega arith))
-    (λ e. let l = ltb-false k 1 e in (l, leb-true k 13 (rw e at h)))
+    (λ e. let l = ltb-false k 1 e in (l, leb-true k 12 (rw e at h)))
 
 -- what holds of every request that the fields can ask for holds of the one that they ask for
 pub by-kind : (P : Told Request → Type 0) (f : Fields) → isKind (f .kind) ≡ true
@@ -34,10 +34,10 @@ pub by-kind : (P : Told Request → Type 0) (f : Fields) → isKind (f .kind) �
     → P (given (request.EraseLba (f .word) (f .half))) → P (given (request.EraseForce (f .word) (f .half)))
     → (f .kind ≡ 7 → P (given (request.ReadLba (f .word) (f .half)))) → (f .kind ≡ 8 → P (given (request.WriteLba (f .word) (f .half) (f .byte))))
     → P (resetRequest (f .byte)) → P (given request.Storage) → P (given (switchRequest (f .byte)))
-    → (f .kind ≡ 12 → P (given (request.WriteArea (f .half) (f .word) (f .byte)))) → (f .kind ≡ 13 → P (given (request.WriteAreaNoCrc (f .half) (f .word) (f .byte))))
+    → (f .kind ≡ 12 → P (given (request.WriteArea (f .half) (f .word) (f .byte))))
     → P (requestOf f)
 unfolding requestOf
-by-kind P f h chip id info capability erase force read write reset storage switch upload unchecked =
+by-kind P f h chip id info capability erase force read write reset storage switch upload =
     let k = f .kind in
     let bounds = known k h in
     by-test P (eqb k 1) (λ e. chip) (λ e1. let l1 = further 1 k (bounds .0) e1 in
@@ -51,8 +51,7 @@ by-kind P f h chip id info capability erase force read write reset storage switc
     by-test P (eqb k 9) (λ e. reset) (λ e9. let l9 = further 9 k l8 e9 in
     by-test P (eqb k 10) (λ e. storage) (λ e10. let l10 = further 10 k l9 e10 in
     by-test P (eqb k 11) (λ e. switch) (λ e11. let l11 = further 11 k l10 e11 in
-    by-test P (eqb k 12) (λ e. upload (eqb-true k 12 e)) (λ e12. let l12 = further 12 k l11 e12 in
-    unchecked (let top = bounds .1 in omega arith)))))))))))))
+    upload (let top = bounds .1 in omega arith))))))))))))
 
 no-rule : (told : Told Request) → told ≡ unless [] told
 unfolding orRefuse
@@ -64,7 +63,8 @@ passed-rules tag block r h =
     let f = fieldsOf block in
     let long = rule-met _ _ (requestOf f) r h in
     let right = rule-met _ _ (requestOf f) r (long .1) in
-    let kind = rule-met _ _ (requestOf f) r (right .1) in
+    let today = rule-met _ _ (requestOf f) r (right .1) in
+    let kind = rule-met _ _ (requestOf f) r (today .1) in
     let zeros = rule-met _ _ (requestOf f) r (kind .1) in
     let small = rule-met _ _ (requestOf f) r (zeros .1) in
     record {

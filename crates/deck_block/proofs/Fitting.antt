@@ -33,7 +33,6 @@ asked-fits block r p =
     (λ e. ltb-false 16 (f .half) (rw e at (p .small)))
     (λ e. ltb-false 16 (f .half) (rw e at (p .small)))
     (reset-fits (resetOf (f .byte))) tt tt
-    (λ e. ltb-false 8192 (f .word) (rw e at (p .small)))
     (λ e. ltb-false 8192 (f .word) (rw e at (p .small))))
 
 abbrev NamedTold : Told Request → Type 0
@@ -70,4 +69,4 @@ asked-named block r bytes p =
     let f = fieldsOf block in
     let both : (f .word < 256 ^ 4) × (f .half < 256 ^ 2) = (word-bound block bytes (p .long), half-bound block bytes (p .long)) in
     subst NamedTold (p .asks)
-    (by-kind NamedTold f (p .kind) tt tt tt tt both both (λ e. both) (λ e. both) (reset-named (resetOf (f .byte))) tt tt (λ e. tt) (λ e. tt))
+    (by-kind NamedTold f (p .kind) tt tt tt tt both both (λ e. both) (λ e. both) (reset-named (resetOf (f .byte))) tt tt (λ e. tt))

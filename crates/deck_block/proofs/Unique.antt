@@ -15,16 +15,18 @@ answerOf (given r) = answer.Asks r
 answerOf (refused n values) =
     pick (eqb n 44) answer.Short
     (pick (eqb n 40) answer.BadCheck
+    (pick (eqb n 46) answer.WithdrawnKind
     (pick (eqb n 41) answer.UnknownKind
     (pick (eqb n 42) answer.NotZero
     (pick (eqb n 43) answer.TooLarge
-    answer.UnknownReset))))
+    answer.UnknownReset)))))
 
 pub answer-back : (a : CardAnswer) → answerOf (cardTold a) ≡ a
 unfolding answerOf cardTold
 answer-back (answer.Asks r) = refl
 answer-back answer.Short = refl
 answer-back answer.BadCheck = refl
+answer-back answer.WithdrawnKind = refl
 answer-back answer.UnknownKind = refl
 answer-back answer.NotZero = refl
 answer-back answer.TooLarge = refl

@@ -5,7 +5,7 @@ use mathlib.Core.Bool.{not}
 use mathlib.Core.List.{List, [], _∷_, _++_}
 use native.Mathlib.Omega.{arith}
 use borrow.Author.Tests.{eq-eqb}
-use lib.Dec.{lit≤}
+use lib.Dec.{lit≤, eqb}
 use lib.ListN.{length, replicate}
 use Rattle.promise.specs.Told.{given, refused, number}
 use Rattle.promise.specs.Rules.{orRefuse, rule, unless}
@@ -15,7 +15,7 @@ use Rattle.deck_block.specs.declared.Request.{Request}
 use Rattle.deck_block.specs.declared.Request.the-variants as request
 use Rattle.deck_block.specs.declared.CardAnswer.{CardAnswer}
 use Rattle.deck_block.specs.declared.CardAnswer.the-variants as answer
-use Rattle.deck_block.specs.Block.{fieldsOf, blockCheck, firstCheck, withCheck, allZero, isKind, tooLarge}
+use Rattle.deck_block.specs.Block.{fieldsOf, blockCheck, firstCheck, withCheck, allZero, isKind, uncheckedKind, tooLarge}
 use Rattle.deck_block.specs.Reading.{requestOf, readBy, readCard, cardTold}
 use Rattle.deck_block.proofs.Rechecked.{whole-block, right-there}
 use Rattle.deck_block.proofs.Place.{refused-elsewhere}
@@ -28,7 +28,8 @@ sealed body = withCheck 1 body
 rest-read : (body : List ℕ) → length body ≡ 510
     → readCard 1 (sealed body)
     ≡ unless
-    (rule (not (isKind (fieldsOf (sealed body) .kind))) 41 []
+    (rule (eqb (fieldsOf (sealed body) .kind) uncheckedKind) 46 []
+    ∷ rule (not (isKind (fieldsOf (sealed body) .kind))) 41 []
     ∷ rule (not (allZero (field 8 502 (sealed body)))) 42 []
     ∷ rule (tooLarge (fieldsOf (sealed body))) 43 []
     ∷ [])
@@ -42,7 +43,8 @@ rest-read body long =
 abbrev pub body : ℕ → ℕ → ℕ → ℕ → ℕ → ℕ → List ℕ
 body kind word1 word0 half1 half0 ninth = kind ∷ 0 ∷ 0 ∷ word1 ∷ word0 ∷ half1 ∷ half0 ∷ 0 ∷ ninth ∷ replicate 501 0
 
--- chip info, flash id, an erase of 0x0102 sectors, an image of 8,193 bytes, an unknown kind with byte 8 set, an upload without check
+-- chip info, flash id, an erase of 0x0102 sectors, an image of 8,193 bytes, kinds 0 and 14, and kind 13, as it was and
+-- with byte 8 set and an image of 8,193 bytes
 abbrev chip : List ℕ
 chip = sealed (body 1 0 0 0 0 0)
 
@@ -58,8 +60,14 @@ long-image = sealed (body 12 0x20 1 0 0 0)
 abbrev pub unknown : List ℕ
 unknown = sealed (body 0 0 0 0 0 1)
 
-abbrev unchecked : List ℕ
+abbrev unknown-above : List ℕ
+unknown-above = sealed (body 14 0 0 0 0 0)
+
+abbrev pub unchecked : List ℕ
 unchecked = sealed (body 13 0 0 0 0 0)
+
+abbrev unchecked-bad : List ℕ
+unchecked-bad = sealed (body 13 0x20 1 0 0 1)
 
 read-chip : readCard 1 chip ≡ given request.ChipInfo
 unfolding orRefuse requestOf fieldsOf allZero isKind tooLarge fromLow fromHigh
@@ -81,13 +89,27 @@ pub read-unknown : readCard 1 unknown ≡ refused 41 []
 unfolding orRefuse requestOf fieldsOf allZero isKind tooLarge fromLow fromHigh
 read-unknown = rest-read (body 0 0 0 0 0 1) refl
 
-read-unchecked : readCard 1 unchecked ≡ given (request.WriteAreaNoCrc 0 0 0)
+read-above : readCard 1 unknown-above ≡ refused 41 []
+unfolding orRefuse requestOf fieldsOf allZero isKind tooLarge fromLow fromHigh
+read-above = rest-read (body 14 0 0 0 0 0) refl
+
+pub read-unchecked : readCard 1 unchecked ≡ refused 46 []
 unfolding orRefuse requestOf fieldsOf allZero isKind tooLarge fromLow fromHigh
 read-unchecked = rest-read (body 13 0 0 0 0 0) refl
+
+read-unchecked-bad : readCard 1 unchecked-bad ≡ refused 46 []
+unfolding orRefuse requestOf fieldsOf allZero isKind tooLarge fromLow fromHigh
+read-unchecked-bad = rest-read (body 13 0x20 1 0 0 1) refl
 
 pub read-none : readCard 1 [] ≡ refused 44 []
 unfolding readBy orRefuse
 read-none = refl
+
+-- a block of place 1 at place 2
+elsewhere : (body : List ℕ) → 510 ≤ length body → readCard 2 (sealed body) ≡ refused 40 []
+elsewhere body enough =
+    let long : 512 ≤ length (sealed body) = let e = whole-block 1 body enough in omega arith in
+    refused-elsewhere 1 2 (sealed body) (omega arith) (omega arith) (λ e. omega arith) long (right-there 1 body enough)
 
 -- a reader that refuses every block
 pub always-refusing : (r : CardAnswer) (n : ℕ) (values : List ℕ) → cardTold r ≡ refused n values → cardTold r ≡ readCard 1 chip → ⊥
@@ -107,10 +129,40 @@ pub little-endian : cardTold (answer.Asks (request.EraseLba 0 0x0201)) ≡ readC
 unfolding cardTold
 little-endian meets = let z : _≡_ {A = ℕ} 0x0201 0x0102 = cc (meets, read-erase) in omega arith
 
--- kind 13 not known
-pub kind-13-unknown : cardTold answer.UnknownKind ≡ readCard 1 unchecked → ⊥
+-- kind 13 told as an unknown one, and still dealt
+pub withdrawn-as-unknown : cardTold answer.UnknownKind ≡ readCard 1 unchecked → ⊥
 unfolding cardTold
-kind-13-unknown meets = let z : _≡_ {A = ℕ} 0 1 = cc (meets, read-unchecked) in omega arith
+withdrawn-as-unknown meets = let z : _≡_ {A = ℕ} 41 46 = cc (meets, read-unchecked) in omega arith
+
+pub still-dealt : (q : Request) → cardTold (answer.Asks q) ≡ readCard 1 unchecked → ⊥
+unfolding cardTold
+still-dealt q meets = let z : _≡_ {A = ℕ} 0 1 = cc (meets, read-unchecked) in omega arith
+
+-- its check looked at behind its kind; and its bytes 8 to 509, or its image's length, before it
+pub withdrawn-before-check : cardTold answer.WithdrawnKind ≡ readCard 2 unchecked → ⊥
+unfolding cardTold
+withdrawn-before-check meets = let z : _≡_ {A = ℕ} 46 40 = cc (meets, elsewhere (body 13 0 0 0 0 0) (lit≤ tt)) in omega arith
+
+pub withdrawn-after-zeros : cardTold answer.NotZero ≡ readCard 1 unchecked-bad → ⊥
+unfolding cardTold
+withdrawn-after-zeros meets = let z : _≡_ {A = ℕ} 42 46 = cc (meets, read-unchecked-bad) in omega arith
+
+pub withdrawn-after-size : cardTold answer.TooLarge ≡ readCard 1 unchecked-bad → ⊥
+unfolding cardTold
+withdrawn-after-size meets = let z : _≡_ {A = ℕ} 43 46 = cc (meets, read-unchecked-bad) in omega arith
+
+-- the kinds next to it, and one below all, told as withdrawn
+pub above-as-withdrawn : cardTold answer.WithdrawnKind ≡ readCard 1 unknown-above → ⊥
+unfolding cardTold
+above-as-withdrawn meets = let z : _≡_ {A = ℕ} 46 41 = cc (meets, read-above) in omega arith
+
+pub upload-as-withdrawn : cardTold answer.WithdrawnKind ≡ readCard 1 long-image → ⊥
+unfolding cardTold
+upload-as-withdrawn meets = let z : _≡_ {A = ℕ} 46 43 = cc (meets, read-image) in omega arith
+
+pub none-as-withdrawn : cardTold answer.WithdrawnKind ≡ readCard 1 unknown → ⊥
+unfolding cardTold
+none-as-withdrawn meets = let z : _≡_ {A = ℕ} 46 41 = cc (meets, read-unknown) in omega arith
 
 -- an image of 8,193 bytes let through
 pub longer-images : (q : Request) → cardTold (answer.Asks q) ≡ readCard 1 long-image → ⊥
@@ -125,11 +177,7 @@ kind-after-zeros meets = let z : _≡_ {A = ℕ} 42 41 = cc (meets, read-unknown
 -- a block let through at another place
 pub another-place : (q : Request) → cardTold (answer.Asks q) ≡ readCard 2 chip → ⊥
 unfolding cardTold
-another-place q meets =
-    let enough : 510 ≤ length (body 1 0 0 0 0 0) = lit≤ tt in
-    let long : 512 ≤ length chip = let e = whole-block 1 (body 1 0 0 0 0 0) enough in omega arith in
-    let refused-there = refused-elsewhere 1 2 chip (omega arith) (omega arith) (λ e. omega arith) long (right-there 1 (body 1 0 0 0 0 0) enough) in
-    let z : _≡_ {A = ℕ} 0 1 = cc (meets, refused-there) in omega arith
+another-place q meets = let z : _≡_ {A = ℕ} 0 1 = cc (meets, elsewhere (body 1 0 0 0 0 0) (lit≤ tt)) in omega arith
 
 -- the check of block 1 with one byte, and what it is not: the tag behind the byte, the tag's low byte first, the tag of the next block, no tag
 pub tag-behind : (r : ℕ) → r ≡ check ((2 ∷ []) ++ highFirst 4 1) → r ≡ blockCheck 1 (2 ∷ []) → ⊥

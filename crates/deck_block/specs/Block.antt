@@ -81,11 +81,12 @@ switchKind = 11
 abbrev pub uploadKind : ℕ
 uploadKind = 12
 
+unfoldable pub isKind : ℕ → Bool
+isKind k = pick (ltb k chipInfoKind) false (leb k uploadKind)
+
+-- the kind that is withdrawn: upload without check
 abbrev pub uncheckedKind : ℕ
 uncheckedKind = 13
-
-unfoldable pub isKind : ℕ → Bool
-isKind k = pick (ltb k chipInfoKind) false (leb k uncheckedKind)
 
 -- "read or write above 16 sectors or image above 8,192"
 abbrev pub mostDeckSectors : ℕ
@@ -98,5 +99,4 @@ unfoldable pub tooLarge : Fields → Bool
 tooLarge f =
     pick (eqb (f .kind) readKind) (ltb mostDeckSectors (f .half))
     (pick (eqb (f .kind) writeKind) (ltb mostDeckSectors (f .half))
-    (pick (eqb (f .kind) uploadKind) (ltb longestImage (f .word))
-    (pick (eqb (f .kind) uncheckedKind) (ltb longestImage (f .word)) false)))
+    (pick (eqb (f .kind) uploadKind) (ltb longestImage (f .word)) false))

@@ -14,7 +14,7 @@ use Rattle.deck_block.specs.declared.Request.{Request}
 use Rattle.deck_block.specs.declared.Request.the-variants as request
 use Rattle.deck_block.specs.declared.CardAnswer.{CardAnswer}
 use Rattle.deck_block.specs.declared.CardAnswer.the-variants as answer
-use Rattle.deck_block.specs.Block.{blockLength, fieldsOf, blockCheck, firstCheck, allZero, isKind, tooLarge, chipInfoKind, flashIdKind, flashInfoKind, capabilityKind, eraseLbaKind, eraseForceKind, readKind, writeKind, resetKind, storageKind, switchKind, uploadKind, mostDeckSectors, longestImage}
+use Rattle.deck_block.specs.Block.{blockLength, fieldsOf, blockCheck, firstCheck, allZero, isKind, uncheckedKind, tooLarge, chipInfoKind, flashIdKind, flashInfoKind, capabilityKind, eraseLbaKind, eraseForceKind, readKind, writeKind, resetKind, storageKind, switchKind, mostDeckSectors, longestImage}
 use mathlib.Core.Path.{_≡_}
 
 -- 45: "reset above 4"
@@ -31,8 +31,7 @@ resetRequest byte = asksReset (resetOf byte)
 abbrev pub switchRequest : ℕ → Request
 switchRequest byte = request.SwitchStorage (storageOf byte)
 
--- "1 chip info, 2 flash id, 3 flash info, 4 capability, 5 `erase_lba`, 6 `erase_force`, 7 read, 8 write, 9 reset, 10 storage, 11 switch, 12 upload,
--- 13 upload without check"
+-- "1 chip info, 2 flash id, 3 flash info, 4 capability, 5 `erase_lba`, 6 `erase_force`, 7 read, 8 write, 9 reset, 10 storage, 11 switch, 12 upload"
 unfoldable pub requestOf : Fields → Told Request
 requestOf f =
     pick (eqb (f .kind) chipInfoKind) (given request.ChipInfo)
@@ -46,15 +45,16 @@ requestOf f =
     (pick (eqb (f .kind) resetKind) (resetRequest (f .byte))
     (pick (eqb (f .kind) storageKind) (given request.Storage)
     (pick (eqb (f .kind) switchKind) (given (switchRequest (f .byte)))
-    (pick (eqb (f .kind) uploadKind) (given (request.WriteArea (f .half) (f .word) (f .byte)))
-    (given (request.WriteAreaNoCrc (f .half) (f .word) (f .byte))))))))))))))
+    (given (request.WriteArea (f .half) (f .word) (f .byte)))))))))))))
 
--- a block that must have this check: "Refused in order: 44 short last block .., 40 check, 41 kind, 42 bytes 8-509, 43 .., 45 reset above 4"
+-- a block that must have this check: "Refused in order: 44 short last block .., 40 check, 41 kind, 42 bytes 8-509, 43 .., 45 reset above 4"; "46 for kind
+-- 13, at the place of 41"
 unfoldable pub readBy : ℕ → List ℕ → Told Request
 readBy check block =
     unless
     (rule (ltb (length block) blockLength) 44 []
     ∷ rule (not (eqb (fieldsOf block .check) check)) 40 []
+    ∷ rule (eqb (fieldsOf block .kind) uncheckedKind) 46 []
     ∷ rule (not (isKind (fieldsOf block .kind))) 41 []
     ∷ rule (not (allZero (field 8 502 block))) 42 []
     ∷ rule (tooLarge (fieldsOf block)) 43 []
@@ -65,7 +65,7 @@ readBy check block =
 abbrev pub readCard : ℕ → List ℕ → Told Request
 readCard tag block = readBy (blockCheck tag block) block
 
--- a block of a deck made before, as it was read then
+-- a block of a deck made before, by its first check
 abbrev pub readBefore : List ℕ → Told Request
 readBefore block = readBy (firstCheck block) block
 
@@ -73,6 +73,7 @@ unfoldable pub cardTold : CardAnswer → Told Request
 cardTold (answer.Asks r) = given r
 cardTold answer.Short = refused 44 []
 cardTold answer.BadCheck = refused 40 []
+cardTold answer.WithdrawnKind = refused 46 []
 cardTold answer.UnknownKind = refused 41 []
 cardTold answer.NotZero = refused 42 []
 cardTold answer.TooLarge = refused 43 []
@@ -92,7 +93,6 @@ Fits (request.ResetDevice opcode) = Unit
 Fits request.Storage = Unit
 Fits (request.SwitchStorage index) = Unit
 Fits (request.WriteArea area n fill) = n ≤ longestImage
-Fits (request.WriteAreaNoCrc area n fill) = n ≤ longestImage
 
 -- the first sector and the count of an operation are what a command can name
 abbrev pub Named : Request → Type 0
@@ -108,7 +108,6 @@ Named (request.ResetDevice opcode) = Unit
 Named request.Storage = Unit
 Named (request.SwitchStorage index) = Unit
 Named (request.WriteArea area n fill) = Unit
-Named (request.WriteAreaNoCrc area n fill) = Unit
 
 -- the rules that were met on the way
 pub record Passed (block : List ℕ) (r : Request) : Type 0 where

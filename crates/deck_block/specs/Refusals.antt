@@ -14,7 +14,7 @@ isAmong n [] = false
 isAmong n (m ∷ ms) = pick (eqb n m) true (isAmong n ms)
 
 abbrev pub blockRefusals : List ℕ
-blockRefusals = 40 ∷ 41 ∷ 42 ∷ 43 ∷ 44 ∷ 45 ∷ []
+blockRefusals = 40 ∷ 41 ∷ 42 ∷ 43 ∷ 44 ∷ 45 ∷ 46 ∷ []
 
 abbrev pub CardTold : Told Request → Type 0
 CardTold (given r) = Unit

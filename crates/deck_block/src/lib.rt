@@ -16,6 +16,9 @@ use protocol_codes::StorageIndex;
 
 const CARD_BYTES: usize = 512;
 
+// Upload without check.
+const WITHDRAWN: u8 = 13;
+
 // What a block asks for: an operation with its address and count, or an upload with its area and length; then the fill byte.
 pub enum Request {
     ChipInfo,
@@ -30,14 +33,14 @@ pub enum Request {
     Storage,
     SwitchStorage(StorageIndex),
     WriteArea(u16, u32, u8),
-    WriteAreaNoCrc(u16, u32, u8),
 }
 
 pub enum CardAnswer {
     Asks(Request),
-    // 44, 40, 41, 42, 43, 45
+    // 44, 40, 46, 41, 42, 43, 45
     Short,
     BadCheck,
+    WithdrawnKind,
     UnknownKind,
     NotZero,
     TooLarge,
@@ -53,6 +56,7 @@ impl CardAnswer {
             CardAnswer::Asks(_) => 0,
             CardAnswer::Short => 44,
             CardAnswer::BadCheck => 40,
+            CardAnswer::WithdrawnKind => 46,
             CardAnswer::UnknownKind => 41,
             CardAnswer::NotZero => 42,
             CardAnswer::TooLarge => 43,
@@ -105,7 +109,7 @@ fn is_kind(kind: u8) -> bool
     if kind < 1 {
         return false;
     }
-    kind <= 13
+    kind <= 12
 }
 
 fn too_large(f: Fields) -> bool
@@ -116,7 +120,6 @@ fn too_large(f: Fields) -> bool
         7 => 16 < f.half,
         8 => 16 < f.half,
         12 => 8192 < f.word,
-        13 => 8192 < f.word,
         _ => false,
     }
 }
@@ -136,7 +139,7 @@ fn switch_request(index: u8) -> Request
     Request::SwitchStorage(StorageIndex::from_number(index))
 }
 
-// What the fields ask for; a kind that is none of the others is 13.
+// What the fields ask for; a kind that is none of the others is 12.
 fn request_of(f: Fields) -> CardAnswer
     ensures { λ r. ⌜ cardTold r ≡ requestOf f ⌝ }
 {
@@ -153,8 +156,7 @@ fn request_of(f: Fields) -> CardAnswer
         9 => reset_request(f.byte),
         10 => CardAnswer::Asks(Request::Storage),
         11 => CardAnswer::Asks(switch_request(f.byte)),
-        12 => CardAnswer::Asks(Request::WriteArea(f.half, f.word, f.byte)),
-        _ => CardAnswer::Asks(Request::WriteAreaNoCrc(f.half, f.word, f.byte)),
+        _ => CardAnswer::Asks(Request::WriteArea(f.half, f.word, f.byte)),
     }
 }
 
@@ -168,6 +170,9 @@ pub fn read_card(tag: u32, block: &[u8]) -> CardAnswer
     let f = fields_of(block);
     if f.check != block_check(tag, block) {
         return CardAnswer::BadCheck;
+    }
+    if f.kind == WITHDRAWN {
+        return CardAnswer::WithdrawnKind;
     }
     if !is_kind(f.kind) {
         return CardAnswer::UnknownKind;

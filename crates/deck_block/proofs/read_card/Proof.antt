@@ -11,7 +11,7 @@ use lib.Dec.{ltb, eqb}
 use Rattle.promise.specs.Rules.{orRefuse}
 use Rattle.promise.specs.Bytes.{field}
 use Rattle.deck_block.specs.declared.Fields.{Fields}
-use Rattle.deck_block.specs.Block.{fieldsOf, blockCheck, allZero, isKind, tooLarge}
+use Rattle.deck_block.specs.Block.{fieldsOf, blockCheck, allZero, isKind, uncheckedKind, tooLarge}
 use Rattle.deck_block.specs.Reading.{cardTold, requestOf, readBy}
 use Rattle.deck_block.proofs.read_card.Statement.{statement}
 use Rattle.deck_block.proofs.read_card.Tie as tie
@@ -29,13 +29,16 @@ right : (c : tie.Else2) → eqb (fieldsOf (read (c .before .before .before .befo
 right c =
     eq-eqb _ _ (ap (λ (f : Fields). f .check) (sym (fields (c .before .before .before))) ∙ c .if2 .left ∙ c .before .before .block-check .ensures)
 
-kind : (c : tie.Else3) → isKind (fieldsOf (read (c .before .before .before .before .before .before)) .kind) ≡ true
-kind c =
-    ap (λ (f : Fields). isKind (f .kind)) (sym (fields (c .before .before .before .before .before)))
-    ∙ sym (c .before .is-kind .ensures) ∙ not-false (c .before .is-kind .result) (c .if3 .left)
+today : (c : tie.Else3) → eqb (fieldsOf (read (c .before .before .before .before .before .before)) .kind) uncheckedKind ≡ false
+today c = ne-eqb _ _ (λ same. c .if3 .left (ap (λ (f : Fields). f .kind) (fields (c .before .before .before .before .before)) ∙ same))
 
-zero-rest : (c : tie.Else4) → allZero (field 8 502 (read (c .before .before .before .before .before .before .before .before .before))) ≡ true
-zero-rest c = sym (c .before .all-zero .ensures) ∙ not-false (c .before .all-zero .result) (c .if4 .left)
+kind : (c : tie.Else4) → isKind (fieldsOf (read (c .before .before .before .before .before .before .before .before)) .kind) ≡ true
+kind c =
+    ap (λ (f : Fields). isKind (f .kind)) (sym (fields (c .before .before .before .before .before .before .before)))
+    ∙ sym (c .before .is-kind .ensures) ∙ not-false (c .before .is-kind .result) (c .if4 .left)
+
+zero-rest : (c : tie.Else5) → allZero (field 8 502 (read (c .before .before .before .before .before .before .before .before .before .before .before))) ≡ true
+zero-rest c = sym (c .before .all-zero .ensures) ∙ not-false (c .before .all-zero .result) (c .if5 .left)
 
 returns : tie.Need-returns
 unfolding cardTold readBy orRefuse
@@ -54,41 +57,54 @@ unfolding cardTold readBy orRefuse
 returns-3 c =
     let t = c .before .before in
     let e = t .before .before .before .before in
-    let unknown : isKind (fieldsOf (read e) .kind) ≡ false =
-    ap (λ (f : Fields). isKind (f .kind)) (sym (fields (t .before .before .before)))
-    ∙ sym (c .before .is-kind .ensures) ∙ not-true (c .before .is-kind .result) (c .if3 .taken) in
-    rw (long e, right t, unknown)
+    let withdrawn : eqb (fieldsOf (read e) .kind) uncheckedKind ≡ true =
+    eq-eqb _ _ (ap (λ (f : Fields). f .kind) (sym (fields (t .before .before .before))) ∙ c .if3 .taken) in
+    rw (long e, right t, withdrawn)
 
 returns-4 : tie.Need-returns-4
 unfolding cardTold readBy orRefuse
 returns-4 c =
-    let k = c .before .before .before in
-    let t = k .before .before in
+    let d = c .before .before in
+    let t = d .before .before in
     let e = t .before .before .before .before in
-    let other : allZero (field 8 502 (read e)) ≡ false = sym (c .before .all-zero .ensures) ∙ not-true (c .before .all-zero .result) (c .if4 .taken) in
-    rw (long e, right t, kind k, other)
+    let unknown : isKind (fieldsOf (read e) .kind) ≡ false =
+    ap (λ (f : Fields). isKind (f .kind)) (sym (fields (t .before .before .before)))
+    ∙ sym (c .before .is-kind .ensures) ∙ not-true (c .before .is-kind .result) (c .if4 .taken) in
+    rw (long e, right t, today d, unknown)
 
 returns-5 : tie.Need-returns-5
 unfolding cardTold readBy orRefuse
 returns-5 c =
-    let z = c .before .before in
-    let k = z .before .before .before in
-    let t = k .before .before in
+    let k = c .before .before .before in
+    let d = k .before .before in
+    let t = d .before .before in
     let e = t .before .before .before .before in
-    let large : tooLarge (fieldsOf (read e)) ≡ true =
-    ap tooLarge (sym (fields (t .before .before .before))) ∙ sym (c .before .too-large .ensures) ∙ c .if5 .taken in
-    rw (long e, right t, kind k, zero-rest z, large)
+    let other : allZero (field 8 502 (read e)) ≡ false = sym (c .before .all-zero .ensures) ∙ not-true (c .before .all-zero .result) (c .if5 .taken) in
+    rw (long e, right t, today d, kind k, other)
 
 returns-6 : tie.Need-returns-6
-unfolding readBy orRefuse
+unfolding cardTold readBy orRefuse
 returns-6 c =
+    let z = c .before .before in
+    let k = z .before .before .before in
+    let d = k .before .before in
+    let t = d .before .before in
+    let e = t .before .before .before .before in
+    let large : tooLarge (fieldsOf (read e)) ≡ true =
+    ap tooLarge (sym (fields (t .before .before .before))) ∙ sym (c .before .too-large .ensures) ∙ c .if6 .taken in
+    rw (long e, right t, today d, kind k, zero-rest z, large)
+
+returns-7 : tie.Need-returns-7
+unfolding readBy orRefuse
+returns-7 c =
     let z = c .before .before .before in
     let k = z .before .before .before in
-    let t = k .before .before in
+    let d = k .before .before in
+    let t = d .before .before in
     let e = t .before .before .before .before in
     let small : tooLarge (fieldsOf (read e)) ≡ false =
-    ap tooLarge (sym (fields (t .before .before .before))) ∙ sym (c .before .before .too-large .ensures) ∙ c .before .if5 .left in
-    rw (long e, right t, kind k, zero-rest z, small) (c .request-of .ensures ∙ ap requestOf (fields (t .before .before .before)))
+    ap tooLarge (sym (fields (t .before .before .before))) ∙ sym (c .before .before .too-large .ensures) ∙ c .before .if6 .left in
+    rw (long e, right t, today d, kind k, zero-rest z, small) (c .request-of .ensures ∙ ap requestOf (fields (t .before .before .before)))
 
 pub read-card-spec : {M : Type 1} → statement M
 read-card-spec =
@@ -98,14 +114,15 @@ read-card-spec =
     (λ c κs. search needs)
     (λ c κs. search needs)
     returns-2
-    (λ c κs. search needs)
     returns-3
-    (λ c. search needs)
-    (λ c. search needs)
-    (λ c. search needs)
     (λ c κs. search needs)
     returns-4
+    (λ c. search needs)
+    (λ c. search needs)
+    (λ c. search needs)
     (λ c κs. search needs)
     returns-5
     (λ c κs. search needs)
-    returns-6)
+    returns-6
+    (λ c κs. search needs)
+    returns-7)

@@ -53,26 +53,21 @@ returns-11 c = rw (c .before .match .keys11) (ap given (c .switch-request .ensur
 
 returns-12 : tie.Need-returns-12
 unfolding cardTold requestOf
-returns-12 c = rw (c .match .keys12)
-
-returns-13 : tie.Need-returns-13
-unfolding cardTold requestOf
-returns-13 c =
+returns-12 c =
     let k = c .before .args .f .kind in
     let n = c .match .rest in
     rw (
-      ne-eqb k 1 (n .0 .0 .0 .0 .0 .0 .0 .0 .0 .0 .0 .1),
-      ne-eqb k 2 (n .0 .0 .0 .0 .0 .0 .0 .0 .0 .0 .1),
-      ne-eqb k 3 (n .0 .0 .0 .0 .0 .0 .0 .0 .0 .1),
-      ne-eqb k 4 (n .0 .0 .0 .0 .0 .0 .0 .0 .1),
-      ne-eqb k 5 (n .0 .0 .0 .0 .0 .0 .0 .1),
-      ne-eqb k 6 (n .0 .0 .0 .0 .0 .0 .1),
-      ne-eqb k 7 (n .0 .0 .0 .0 .0 .1),
-      ne-eqb k 8 (n .0 .0 .0 .0 .1),
-      ne-eqb k 9 (n .0 .0 .0 .1),
-      ne-eqb k 10 (n .0 .0 .1),
-      ne-eqb k 11 (n .0 .1),
-      ne-eqb k 12 (n .1),
+      ne-eqb k 1 (n .0 .0 .0 .0 .0 .0 .0 .0 .0 .0 .1),
+      ne-eqb k 2 (n .0 .0 .0 .0 .0 .0 .0 .0 .0 .1),
+      ne-eqb k 3 (n .0 .0 .0 .0 .0 .0 .0 .0 .1),
+      ne-eqb k 4 (n .0 .0 .0 .0 .0 .0 .0 .1),
+      ne-eqb k 5 (n .0 .0 .0 .0 .0 .0 .1),
+      ne-eqb k 6 (n .0 .0 .0 .0 .0 .1),
+      ne-eqb k 7 (n .0 .0 .0 .0 .1),
+      ne-eqb k 8 (n .0 .0 .0 .1),
+      ne-eqb k 9 (n .0 .0 .1),
+      ne-eqb k 10 (n .0 .1),
+      ne-eqb k 11 (n .1),
     )
 
 pub request-of-spec : {M : Type 1} → statement M
@@ -92,5 +87,4 @@ request-of-spec =
     returns-9
     returns-10
     returns-11
-    returns-12
-    returns-13)
+    returns-12)

@@ -19,14 +19,10 @@ returns-3 c = rw (c .before .match .keys3)
 
 returns-4 : tie.Need-returns-4
 unfolding tooLarge
-returns-4 c = rw (c .before .match .keys4)
-
-returns-5 : tie.Need-returns-5
-unfolding tooLarge
-returns-5 c =
+returns-4 c =
     let k = c .before .args .f .kind in
     let n = c .match .rest in
-    rw (ne-eqb k 7 (n .0 .0 .0 .1), ne-eqb k 8 (n .0 .0 .1), ne-eqb k 12 (n .0 .1), ne-eqb k 13 (n .1))
+    rw (ne-eqb k 7 (n .0 .0 .1), ne-eqb k 8 (n .0 .1), ne-eqb k 12 (n .1))
 
 pub too-large-spec : {M : Type 1} → statement M
-too-large-spec = tie.close (tie.spec returns returns-2 returns-3 returns-4 returns-5)
+too-large-spec = tie.close (tie.spec returns returns-2 returns-3 returns-4)
