@@ -64,16 +64,16 @@ as-asked r flash store op op′ bytes bytes′ h e f m =
     subst (λ (b : List ℕ). DealMeets r flash store (operate op′ b h)) f (subst (λ (o : UsbOperation). DealMeets r flash store (operate o bytes h)) e m)
 
 -- the start of a whole upload hands it back fresh
-pub starts-fresh : (area : ℕ) (checked : Bool) (image : List ℕ) → length image ≤ longest
-    → after (freshWhole area checked 0) (startStep area checked image) ≡ freshWhole area checked (length image)
+pub starts-fresh : (area : ℕ) (image : List ℕ) → length image ≤ longest
+    → after (freshWhole area 0) (startStep area image) ≡ freshWhole area (length image)
 unfolding startStep orRefuse after
-starts-fresh area checked image h = rw (le-ltb longest (length image) h)
+starts-fresh area image h = rw (le-ltb longest (length image) h)
 
-pub as-loaded : (r : Dealt) (flash store : List ℕ) (area : ℕ) (checked : Bool) (upload : WholeUpload) (image image′ : List ℕ) (h : Head)
-    → upload ≡ freshWhole area checked (length image) → image ≡ image′
-    → DealMeets r flash store (loadOf upload image h) → DealMeets r flash store (load area checked image′ h)
-as-loaded r flash store area checked upload image image′ h e f m =
-    subst (λ (i : List ℕ). DealMeets r flash store (load area checked i h)) f
+pub as-loaded : (r : Dealt) (flash store : List ℕ) (area : ℕ) (upload : WholeUpload) (image image′ : List ℕ) (h : Head)
+    → upload ≡ freshWhole area (length image) → image ≡ image′
+    → DealMeets r flash store (loadOf upload image h) → DealMeets r flash store (load area image′ h)
+as-loaded r flash store area upload image image′ h e f m =
+    subst (λ (i : List ℕ). DealMeets r flash store (load area i h)) f
     (subst (λ (u : WholeUpload). DealMeets r flash store (loadOf u image h)) e m)
 
 -- what was done for a request, where that is what is carried out for it

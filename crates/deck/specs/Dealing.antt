@@ -32,7 +32,7 @@ loadOf upload image h =
     (h .flash)
 
 abbrev pub load : ℕ → Bool → List ℕ → Head → Deal
-load area checked image h = loadOf (freshWhole area checked (length image)) image h
+load area image h = loadOf (freshWhole area (length image)) image h
 
 -- "1 chip info, .. 13 upload without check"; "the fill byte of written data and images"; sectors are read into zeros
 unfoldable pub carryOut : ℕ → Request → Head → Deal

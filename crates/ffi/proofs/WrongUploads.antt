@@ -5,10 +5,11 @@ use mathlib.Core.Bool.{true, false}
 use mathlib.Core.List.{List, [], _∷_}
 use native.Mathlib.Omega.{arith}
 use lib.ListN.{getD, replicate}
+use Rattle.crc.specs.Check.{crcOver}
 use Rattle.promise.specs.Told.{number, andThen}
 use Rattle.promise.specs.Rules.{orRefuse, differs}
 use Rattle.promise.specs.Does.{said, sent, after}
-use Rattle.maskrom_transfer.specs.Moves.{blockSize, checkBytes, register, writing, movesAt}
+use Rattle.maskrom_transfer.specs.Moves.{blockSize, checkBytes, writing, movesAt}
 use Rattle.maskrom_transfer.specs.Sending.{sendStep}
 use Rattle.maskrom.specs.PartWise.{closed, takes, partStep, asks, closeStep}
 use Rattle.maskrom.specs.Whole.{startStep, most, sendsOn, wholeStep}
@@ -37,7 +38,7 @@ refused-as-another m = let z : _≡_ {A = ℕ} 27 20 = m .tells in omega arith
 
 -- a whole upload of which nothing is put into the output
 pub nothing-sent : (r : ℕ) → DriveMeets r zeros (wholeDrive area false image zeros 1) → ⊥
-unfolding onStart startStep orRefuse stepDrive runs follow stepTurn onward wholeStep sendsOn most sendStep movesAt writing register checkBytes asks andThen said sent after number endTold
+unfolding onStart startStep orRefuse stepDrive runs follow stepTurn onward wholeStep sendsOn most sendStep movesAt writing crcOver checkBytes asks andThen said sent after number endTold
 nothing-sent r m = let z : _≡_ {A = ℕ} 0 7 = ap (λ (l : List ℕ). getD l 0 0) (m .leaves) in omega arith
 
 -- an image that was not handed over, told as done
@@ -52,5 +53,5 @@ part-refused-as-another m = let z : _≡_ {A = ℕ} 27 20 = m .tells in omega ar
 
 -- an upload by parts of which nothing is put into the output
 pub parts-nothing-sent : (r : ℕ) → DriveMeets r zeros (partDrive area false 1 image zeros 2) → ⊥
-unfolding partDrive onHanded partTurn onPart partStep takes closed orRefuse stepDrive stepTurn onward closeStep sendStep movesAt writing register checkBytes asks andThen runs follow said sent after number endTold
+unfolding partDrive onHanded partTurn onPart partStep takes closed orRefuse stepDrive stepTurn onward closeStep sendStep movesAt writing crcOver checkBytes asks andThen runs follow said sent after number endTold
 parts-nothing-sent r m = let z : _≡_ {A = ℕ} 0 7 = ap (λ (l : List ℕ). getD l 0 0) (m .leaves) in omega arith

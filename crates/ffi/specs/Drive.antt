@@ -66,7 +66,7 @@ onStart (refused n vs) image out budget = drove n out
 
 -- from the start to the finish
 abbrev pub wholeDrive : ℕ → Bool → List ℕ → List ℕ → ℕ → Drove
-wholeDrive area checked image out budget = onStart (startStep area checked image) image out budget
+wholeDrive area image out budget = onStart (startStep area image) image out budget
 
 -- parts
 
@@ -101,6 +101,6 @@ onHanded (suc n) m out = drove (suc n) out
 
 -- from the start to the finish, in parts of `size` bytes
 unfoldable pub partDrive : ℕ → Bool → ℕ → List ℕ → List ℕ → ℕ → Drove
-partDrive area checked size image out budget =
-    let run = runs (partTurn size) budget (handing (fresh area checked) image out) in
+partDrive area size image out budget =
+    let run = runs (partTurn size) budget (handing (fresh area) image out) in
     onHanded (number (endTold (run .end))) (run .state .operation) (run .state .out)

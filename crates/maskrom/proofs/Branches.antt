@@ -8,11 +8,12 @@ use native.Mathlib.Decide.{decLt, ℕ-discrete}
 use borrow.Author.Tests.{ltb-false}
 use lib.Dec.{ltb}
 use lib.ListN.{length, take}
+use Rattle.crc.specs.Check.{crcOver}
 use Rattle.promise.specs.Told.{Told, given, refused}
 use Rattle.promise.specs.Rules.{rule, roomRule, tooShort, differs}
 use Rattle.promise.specs.Does.{Does, does, Meets}
 use Rattle.promise.proofs.Outcome.{either-way}
-use Rattle.maskrom_transfer.specs.Moves.{blockSize, register, movesAt}
+use Rattle.maskrom_transfer.specs.Moves.{blockSize, movesAt}
 use Rattle.maskrom.specs.declared.MaskRomOperation.{MaskRomOperation}
 use Rattle.maskrom.specs.declared.WholeUpload.{WholeUpload}
 use Rattle.maskrom.specs.Answers.{longest, tooLong, closedAlready, Handed, Asks}
@@ -43,7 +44,7 @@ part-either P m part room refusing taking =
 -- a closing step's branches, by the room
 module _ (P : Told (Does Asks MaskRomOperation) → Type 0) (m : MaskRomOperation) (room : ℕ) (short : P (refused tooShort []))
     (closing :
-    let to = movesAt (m .steps) (m .checked) (m .crc) (held m) in
+    let to = movesAt (m .steps) (m .crc) (held m) in
     P (given (does (asks (m .steps) (m .area) (length (to .bytes))) (to .bytes) (withMoved m (to .crc) (to .steps))))) where
   close-by : Dec (room < 4096) → P (closeStep m room)
   close-by (yes h) = subst P (sym (close-20 m room h)) short
@@ -57,7 +58,7 @@ module _ (P : Told (Does Asks WholeUpload) → Type 0) (u : WholeUpload) (image 
     (short : P (refused tooShort [])) (other : P (refused differs []))
     (sending : length image ≡ u .length →
     let w = chunk u image in
-    let to = movesAt (u .steps) (u .checked) (register (u .checked) (u .crc) w) w in
+    let to = movesAt (u .steps) (crcOver (u .crc) w) w in
     P (given (does (asks (u .steps) (u .area) (length (to .bytes))) (to .bytes) (sentOn u (length w) (to .crc) (to .steps))))) where
   step-by : Dec (room < 4096) → Dec (length image ≡ u .length) → P (wholeStep u image room)
   step-by (yes h) d = subst P (sym (whole-20 u image room h)) short

@@ -8,13 +8,14 @@ use lib.ListN.{length, take}
 use types.Run.{OneOf, miss}
 use denote.Enum.Declared.{tagOf}
 use borrow.Author.Tests.{eq-eqb, ne-eqb, lt-ltb, le-ltb}
+use Rattle.crc.specs.Check.{crcOver}
 use Rattle.promise.specs.Told.{given, refused, andThen}
 use Rattle.promise.specs.Rules.{orRefuse, differs, tooShort}
 use Rattle.maskrom_transfer.proofs.MaskRomSteps.{the-type}
 use Rattle.maskrom_transfer.specs.declared.MaskRomSteps.{MaskRomSteps}
 use Rattle.maskrom_transfer.specs.declared.MaskRomSteps.the-variants.{Writing, Check, Dummy, Done}
 use Rattle.maskrom.specs.Answers.{longest, tooLong, closedAlready, control, took, filled, writes}
-use Rattle.maskrom_transfer.specs.Moves.{register, movesAt}
+use Rattle.maskrom_transfer.specs.Moves.{movesAt}
 use Rattle.promise.specs.Does.{does}
 use Rattle.maskrom_transfer.proofs.Cases.{send-20, send-acts}
 use Rattle.maskrom.specs.declared.MaskRomOperation.{MaskRomOperation}
@@ -82,13 +83,13 @@ module _ (m : MaskRomOperation) (ys : List ℕ) where
 
 pub close-20 : (m : MaskRomOperation) (room : ℕ) → room < 4096 → closeStep m room ≡ refused tooShort []
 unfolding closeStep andThen
-close-20 m room h = rw (send-20 (m .steps) (m .checked) (m .crc) (held m) room h)
+close-20 m room h = rw (send-20 (m .steps) (m .crc) (held m) room h)
 
 pub close-acts : (m : MaskRomOperation) (room : ℕ) → 4096 ≤ room
-    → let to = movesAt (m .steps) (m .checked) (m .crc) (held m) in
+    → let to = movesAt (m .steps) (m .crc) (held m) in
     closeStep m room ≡ given (does (asks (m .steps) (m .area) (length (to .bytes))) (to .bytes) (withMoved m (to .crc) (to .steps)))
 unfolding closeStep andThen
-close-acts m room h = rw (send-acts (m .steps) (m .checked) (m .crc) (held m) room h)
+close-acts m room h = rw (send-acts (m .steps) (m .crc) (held m) room h)
 
 module _ (u : WholeUpload) (image : List ℕ) (room : ℕ) where
   pub whole-20 : room < 4096 → wholeStep u image room ≡ refused tooShort []
@@ -104,7 +105,7 @@ module _ (u : WholeUpload) (image : List ℕ) (room : ℕ) where
   whole-sends h e = rw (le-ltb room 4096 h, eq-eqb (length image) (u .length) e)
 
 pub sends-acts : (u : WholeUpload) (w : List ℕ) (room : ℕ) → 4096 ≤ room
-    → let to = movesAt (u .steps) (u .checked) (register (u .checked) (u .crc) w) w in
+    → let to = movesAt (u .steps) (crcOver (u .crc) w) w in
     sendsOn u w room ≡ given (does (asks (u .steps) (u .area) (length (to .bytes))) (to .bytes) (sentOn u (length w) (to .crc) (to .steps)))
 unfolding sendsOn andThen
-sends-acts u w room h = rw (send-acts (u .steps) (u .checked) (register (u .checked) (u .crc) w) w room h)
+sends-acts u w room h = rw (send-acts (u .steps) (crcOver (u .crc) w) w room h)

@@ -16,13 +16,13 @@ use Rattle.maskrom.specs.Answers.{longest, Handed, took, partTold}
 use Rattle.maskrom.specs.PartWise.{waiting, closed, withBlock, holding, takes}
 use Rattle.maskrom.specs.Calls.{PartMeets}
 use Rattle.maskrom.proofs.Cases.{part-takes, takes-some}
-use Rattle.maskrom.proofs.Register.{register-empty}
+use Rattle.crc.proofs.Laws.{over-empty}
 use Rattle.maskrom.proofs.Branches.{clash, as-step, part-either}
 
 -- nothing put behind the bytes that wait is the very record
 holds-none : (m : MaskRomOperation) → holding m [] ≡ m
 holds-none m =
-    ap₂ (λ (n c : ℕ). withBlock m n c (take (waiting m) (m .block) ++ drop (waiting m + 0) (m .block))) (add-zero (m .taken)) (register-empty (m .checked) (m .crc))
+    ap₂ (λ (n c : ℕ). withBlock m n c (take (waiting m) (m .block) ++ drop (waiting m + 0) (m .block))) (add-zero (m .taken)) (over-empty (m .crc))
     ∙ ap (λ (k : ℕ). withBlock m (m .taken) (m .crc) (take (waiting m) (m .block) ++ drop k (m .block))) (add-zero (waiting m))
     ∙ ap (withBlock m (m .taken) (m .crc)) (take-append-drop (waiting m) (m .block))
 

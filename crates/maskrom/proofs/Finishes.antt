@@ -7,12 +7,13 @@ use native.Mathlib.Nat.{add-zero}
 use native.Mathlib.Omega.{arith}
 use native.Mathlib.Decide.{ℕ-discrete, decLt}
 use lib.ListN.{length, take, drop}
+use Rattle.crc.specs.Check.{crcOver}
 use Rattle.promise.specs.Told.{Told, given, refused}
 use Rattle.promise.specs.Rules.{tooShort, differs}
 use Rattle.promise.specs.Does.{Does, does, Meets, said, after}
 use Rattle.maskrom_transfer.specs.declared.MaskRomSteps.{MaskRomSteps}
 use Rattle.maskrom_transfer.specs.declared.MaskRomSteps.the-variants.{Writing, Check, Dummy, Done}
-use Rattle.maskrom_transfer.specs.Moves.{blockSize, register, movesAt}
+use Rattle.maskrom_transfer.specs.Moves.{blockSize, movesAt}
 use Rattle.maskrom.specs.declared.MaskRomOperation.{MaskRomOperation}
 use Rattle.maskrom.specs.declared.WholeUpload.{WholeUpload}
 use Rattle.maskrom.specs.declared.CloseStepped.{CloseStepped}
@@ -22,7 +23,7 @@ use Rattle.maskrom.specs.PartWise.{held, closed, asks, withMoved, closeS
 use Rattle.maskrom.specs.Whole.{most, chunk, sentOn, wholeStep}
 use Rattle.maskrom.specs.Calls.{CloseMeets, StepMeets, PartCalls, no-calls, part-call, close-call, WholeCalls, no-steps, step-call, unlessRefused}
 use Rattle.maskrom.proofs.Cases.{close-20, close-acts, whole-20, whole-27, whole-sends, sends-acts}
-use Rattle.maskrom.proofs.Register.{register-empty}
+use Rattle.crc.proofs.Laws.{over-empty}
 use Rattle.maskrom.proofs.Branches.{clash, as-step, close-either, step-either}
 use Rattle.maskrom.proofs.Shut.{close-room, part-shut-keeps}
 
@@ -41,7 +42,7 @@ module _ (m : MaskRomOperation) (done : m .steps ≡ Done) where
   finishes room h =
       close-acts m room h
       ∙ ap (λ (s : MaskRomSteps).
-      let to = movesAt s (m .checked) (m .crc) (held m) in
+      let to = movesAt s (m .crc) (held m) in
       given (does (asks s (m .area) (length (to .bytes))) (to .bytes) (withMoved m (to .crc) (to .steps)))) done
       ∙ ap (λ (s : MaskRomSteps). given (does finish [] (withMoved m (m .crc) s))) (sym done)
 
@@ -114,7 +115,7 @@ module _ (r : CloseStepped) (m : MaskRomOperation) (before now : List ℕ) (meet
 -- whole: one step at a finished record
 module _ (u : WholeUpload) (done : u .steps ≡ Done) where
   abbrev stood : ℕ → ℕ → MaskRomSteps → WholeUpload
-  stood n c s = record { area = u .area; checked = u .checked; length = u .length; taken = n; crc = c; steps = s }
+  stood n c s = record { area = u .area; length = u .length; taken = n; crc = c; steps = s }
 
   step-ends : (image : List ℕ) (room : ℕ) → 4096 ≤ room → length image ≡ u .length → wholeStep u image room ≡ given (does finish [] u)
   unfolding asks movesAt most
@@ -123,9 +124,9 @@ module _ (u : WholeUpload) (done : u .steps ≡ Done) where
       ∙ sends-acts u (chunk u image) room h
       ∙ ap (λ (s : MaskRomSteps).
       let w = take (most s) (drop (u .taken) image) in
-      let to = movesAt s (u .checked) (register (u .checked) (u .crc) w) w in
+      let to = movesAt s (crcOver (u .crc) w) w in
       given (does (asks s (u .area) (length (to .bytes))) (to .bytes) (sentOn u (length w) (to .crc) (to .steps)))) done
-      ∙ ap₂ (λ (n c : ℕ). given (does finish [] (stood n c Done))) (add-zero (u .taken)) (register-empty (u .checked) (u .crc))
+      ∙ ap₂ (λ (n c : ℕ). given (does finish [] (stood n c Done))) (add-zero (u .taken)) (over-empty (u .crc))
       ∙ ap (λ (s : MaskRomSteps). given (does finish [] (stood (u .taken) (u .crc) s))) (sym done)
 
   module _ (r : WholeStepped) (image before now : List ℕ) (meets : StepMeets r u image before now) where

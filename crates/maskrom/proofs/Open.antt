@@ -66,8 +66,8 @@ module _ (r : PartStepped) (m : MaskRomOperation) (part before now : List ℕ) (
   open-not-26 = not-26 (partTold (r .step)) (meets .tells) (decLt (length before) 4096) (decLt longest (m .taken + length part))
 
 -- .. so that no part of a fresh upload is told it before a closing step is answered
-pub not-26-before : (area : ℕ) (checked : Bool) (p : List ℕ) (later : MaskRomOperation) (calls : PartCalls (fresh area checked) p later)
-    → NoneClosed (fresh area checked) p later calls → (r : PartStepped) (part before now : List ℕ) → PartMeets r later part before now
+pub not-26-before : (area : ℕ) (p : List ℕ) (later : MaskRomOperation) (calls : PartCalls (fresh area) p later)
+    → NoneClosed (fresh area) p later calls → (r : PartStepped) (part before now : List ℕ) → PartMeets r later part before now
     → partTold (r .step) ≡ refused closedAlready [] → ⊥
-not-26-before area checked p later calls none r part before now meets =
-    open-not-26 r later part before now meets (none-closed (fresh area checked) p later calls none)
+not-26-before area p later calls none r part before now meets =
+    open-not-26 r later part before now meets (none-closed (fresh area) p later calls none)

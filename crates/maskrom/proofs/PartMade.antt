@@ -1,7 +1,7 @@
 -- Part-wise: what is known of a record once the bytes p are taken, shown of every start and kept by every call, refused or not.
 use Prim.Native.Nat.{ℕ, _+_, _-_, _%_, _<_, _≤_, min}
 use mathlib.Core.Path.{_≡_, refl, ap, ap₂, sym, subst, _∙_}
-use mathlib.Core.Bool.{Bool, false}
+use mathlib.Core.Bool.{false}
 use mathlib.Core.List.{List, [], _∷_, _++_, append-assoc, append-nil}
 use native.Mathlib.Omega.{arith}
 use native.Mathlib.Decide.{ℕ-discrete, decLt}
@@ -11,10 +11,10 @@ use lib.Seq.{length-take-le, take-at, drop-append-le}
 use Rattle.promise.specs.Told.{Told, given}
 use Rattle.promise.specs.Bytes.{front}
 use Rattle.promise.specs.Does.{Does, said, sent, after}
-use Rattle.crc.specs.Check.{start}
+use Rattle.crc.specs.Check.{start, crcOver}
 use Rattle.maskrom_transfer.specs.declared.MaskRomSteps.{MaskRomSteps}
 use Rattle.maskrom_transfer.specs.declared.MaskRomSteps.the-variants.{Writing, Check, Dummy, Done}
-use Rattle.maskrom_transfer.specs.Moves.{blockSize, Moves, register, writing, movesAt}
+use Rattle.maskrom_transfer.specs.Moves.{blockSize, Moves, writing, movesAt}
 use Rattle.maskrom_transfer.proofs.Cases.{writing-pad, writing-dummy, writing-last}
 use Rattle.maskrom_transfer.proofs.Lists.{take-min}
 use Rattle.maskrom.specs.declared.MaskRomOperation.{MaskRomOperation}
@@ -27,7 +27,7 @@ use Rattle.maskrom.specs.Calls.{PartMeets, CloseMeets, countOf, takenOf,
 use Rattle.maskrom.specs.Made.{lastOf, pad, padded, covers, PartPlace, PartAfter, PartMade}
 use Rattle.maskrom.proofs.Lists.{take-front, filled-length}
 use Rattle.maskrom.proofs.Cases.{takes-full, takes-some}
-use Rattle.maskrom.proofs.Register.{register-empty, register-append}
+use Rattle.crc.proofs.Laws.{over-empty, over-append}
 use Rattle.maskrom.proofs.Branches.{clash, part-either, close-either}
 
 -- the pad is there after 4,095 bytes mod 4,096 alone
@@ -39,14 +39,13 @@ pub padded-not : (p : List ℕ) → (length p % 4096 ≡ 4095 → ⊥) → padde
 unfolding padded pad
 padded-not p n = rw (ne-eqb (length p % 4096) 4095 n) (append-nil p)
 
-pub fresh-after : (area : ℕ) (checked : Bool) → PartAfter area checked [] (fresh area checked)
+pub fresh-after : (area : ℕ) → PartAfter area [] (fresh area)
 unfolding covers
-fresh-after area checked = record {
+fresh-after area = record {
   same-area = refl;
-  same-check = refl;
   taken = refl;
   fits = omega arith;
-  crc = sym (register-empty checked start);
+  crc = sym (over-empty start);
   waits = refl;
   whole-block = length-replicate {A = ℕ} 4096 0;
   place = tt;
@@ -59,7 +58,7 @@ not-closed Check e = absurd (let z : _≡_ {A = ℕ} 0 1 = cc in omega arith)
 not-closed Dummy e = absurd (let z : _≡_ {A = ℕ} 0 1 = cc in omega arith)
 not-closed Done e = absurd (let z : _≡_ {A = ℕ} 0 1 = cc in omega arith)
 
-module _ (area : ℕ) (checked : Bool) (p : List ℕ) (m : MaskRomOperation) (known : PartAfter area checked p m) where
+module _ (area : ℕ) (p : List ℕ) (m : MaskRomOperation) (known : PartAfter area p m) where
   pub held-long : length (held m) ≡ length p % blockSize
   held-long = length-take-le (waiting m) (m .block) (omega (arith, known .whole-block)) ∙ ap (λ (n : ℕ). n % 4096) (known .taken)
 
@@ -89,17 +88,16 @@ module _ (area : ℕ) (checked : Bool) (p : List ℕ) (m : MaskRomOperation) (kn
     held-by (yes h) = held-some h
     held-by (no l) = held-none (omega arith)
 
-    holding-after : PartAfter area checked (p ++ ys) (holding m ys)
+    holding-after : PartAfter area (p ++ ys) (holding m ys)
     unfolding covers
     holding-after = record {
       same-area = known .same-area;
-      same-check = known .same-check;
       taken = ap (λ (n : ℕ). n + length ys) (known .taken) ∙ sym (length-append p ys);
       fits = simp length-append long;
       crc =
-          ap₂ (λ (c : Bool) (r : ℕ). register c r ys) (known .same-check) (known .crc ∙ ap (λ (s : MaskRomSteps). register checked start (covers s p)) writes-on)
-          ∙ sym (register-append checked start p ys)
-          ∙ ap (λ (s : MaskRomSteps). register checked start (covers s (p ++ ys))) (sym writes-on);
+          ap (λ (r : ℕ). crcOver r ys) (known .crc ∙ ap (λ (s : MaskRomSteps). crcOver start (covers s p)) writes-on)
+          ∙ sym (over-append start p ys)
+          ∙ ap (λ (s : MaskRomSteps). crcOver start (covers s (p ++ ys))) (sym writes-on);
       waits = held-by (decLt (waiting m + length ys) 4096);
       whole-block = simp (length-append, length-drop, length-take) (omega (arith, known .whole-block));
       place = subst (λ (s : MaskRomSteps). PartPlace s many) (sym writes-on) tt;
@@ -117,44 +115,44 @@ module _ (area : ℕ) (checked : Bool) (p : List ℕ) (m : MaskRomOperation) (kn
     counted : take (length ys) part ≡ ys
     counted = ap (λ (n : ℕ). take n part) count ∙ take-min (4096 - waiting m) part
 
-    taking-after : PartAfter area checked (p ++ ys) (holding m ys)
+    taking-after : PartAfter area (p ++ ys) (holding m ys)
     taking-after = holding-after ys writes-on (omega (arith, count)) (omega (arith, count, known .taken))
 
-    takes-by : Dec (waiting m + length ys < 4096) → PartAfter area checked (p ++ take (countOf (given (takes m ys .says))) part) (takes m ys .becomes)
+    takes-by : Dec (waiting m + length ys < 4096) → PartAfter area (p ++ take (countOf (given (takes m ys .says))) part) (takes m ys .becomes)
     unfolding countOf
     takes-by (yes h) = rw (takes-some m ys h, counted) taking-after
     takes-by (no l) = rw (takes-full m ys (omega (arith, count)), counted) taking-after
 
   -- "Parts: 20, 26, 25" keep the record, and any other takes bytes
-  pub part-keeps : (r : PartStepped) (part before now : List ℕ) → PartMeets r m part before now → PartAfter area checked (p ++ takenOf r part) (r .next)
+  pub part-keeps : (r : PartStepped) (part before now : List ℕ) → PartMeets r m part before now → PartAfter area (p ++ takenOf r part) (r .next)
   unfolding said after countOf
   part-keeps r part before now meets =
       rw (meets .tells, meets .next)
-      (part-either (λ (t : Told (Does Handed MaskRomOperation)). PartAfter area checked (p ++ take (countOf (said t)) part) (after m t)) m part (length before)
+      (part-either (λ (t : Told (Does Handed MaskRomOperation)). PartAfter area (p ++ take (countOf (said t)) part) (after m t)) m part (length before)
       (λ n values. rw (append-nil p) known)
       (λ unshut fits. takes-by part (not-closed (m .steps) unshut) fits (decLt (waiting m + length (take (4096 - waiting m) part)) 4096)))
 
 -- the register and the place behind a closing step
-record Moved (checked : Bool) (p : List ℕ) (to : Moves) : Type 0 where
-  pub crc : to .crc ≡ register checked start (covers (to .steps) p)
+record Moved (p : List ℕ) (to : Moves) : Type 0 where
+  pub crc : to .crc ≡ crcOver start (covers (to .steps) p)
   pub place : PartPlace (to .steps) (length p)
 
-module _ (checked : Bool) (p w : List ℕ) (c : ℕ) (long : length w ≡ length p % 4096) where
-  writing-moved : c ≡ register checked start p → Dec (length w < 4094) → Dec (length w ≡ 4094) → Moved checked p (writing checked c w)
+module _ (p w : List ℕ) (c : ℕ) (long : length w ≡ length p % 4096) where
+  writing-moved : c ≡ crcOver start p → Dec (length w < 4094) → Dec (length w ≡ 4094) → Moved p (writing c w)
   unfolding covers
   writing-moved e (yes l) d =
-      rw (writing-last checked c w l) (record { crc = e ∙ ap (register checked start) (sym (padded-not p (omega arith))); place = tt })
+      rw (writing-last c w l) (record { crc = e ∙ ap (crcOver start) (sym (padded-not p (omega arith))); place = tt })
   writing-moved e (no l) (yes d) =
-      rw (writing-dummy checked c w d) (record { crc = e ∙ ap (register checked start) (sym (padded-not p (omega arith))); place = omega arith })
+      rw (writing-dummy c w d) (record { crc = e ∙ ap (crcOver start) (sym (padded-not p (omega arith))); place = omega arith })
   writing-moved e (no l) (no d) =
       let n : length w ≡ 4095 = omega arith in
-      rw (writing-pad checked c w n)
+      rw (writing-pad c w n)
       (record {
-        crc = ap (λ (x : ℕ). register checked x (0 ∷ [])) e ∙ sym (register-append checked start p (0 ∷ [])) ∙ ap (register checked start) (sym (padded-pad p (omega arith)));
+        crc = ap (λ (x : ℕ). crcOver x (0 ∷ [])) e ∙ sym (over-append start p (0 ∷ [])) ∙ ap (crcOver start) (sym (padded-pad p (omega arith)));
         place = omega arith;
       })
 
-  moved-at : (s : MaskRomSteps) → c ≡ register checked start (covers s p) → Moved checked p (movesAt s checked c w)
+  moved-at : (s : MaskRomSteps) → c ≡ crcOver start (covers s p) → Moved p (movesAt s c w)
   unfolding covers movesAt
   moved-at Writing e = writing-moved e (decLt (length w) 4094) (ℕ-discrete (length w) 4094)
   moved-at Check e = record { crc = e; place = tt }
@@ -162,19 +160,16 @@ module _ (checked : Bool) (p w : List ℕ) (c : ℕ) (long : length w ≡ length
   moved-at Done e = record { crc = e; place = tt }
 
 -- a closing step takes nothing
-pub close-keeps : (area : ℕ) (checked : Bool) (p : List ℕ) (m : MaskRomOperation) → PartAfter area checked p m
-    → (r : CloseStepped) (before now : List ℕ) → CloseMeets r m before now → PartAfter area checked p (r .next)
+pub close-keeps : (area : ℕ) (p : List ℕ) (m : MaskRomOperation) → PartAfter area p m
+    → (r : CloseStepped) (before now : List ℕ) → CloseMeets r m before now → PartAfter area p (r .next)
 unfolding after
-close-keeps area checked p m known r before now meets =
-    let to = movesAt (m .steps) (m .checked) (m .crc) (held m) in
-    let moved : Moved checked p to =
-    subst (λ (b : Bool). Moved checked p (movesAt (m .steps) b (m .crc) (held m))) (sym (known .same-check))
-    (moved-at checked p (held m) (m .crc) (held-long area checked p m known) (m .steps) (known .crc)) in
+close-keeps area p m known r before now meets =
+    let to = movesAt (m .steps) (m .crc) (held m) in
+    let moved : Moved p to = moved-at p (held m) (m .crc) (held-long area p m known) (m .steps) (known .crc) in
     rw (meets .next)
-    (close-either (λ (t : Told (Does Asks MaskRomOperation)). PartAfter area checked p (after m t)) m (length before) known
+    (close-either (λ (t : Told (Does Asks MaskRomOperation)). PartAfter area p (after m t)) m (length before) known
     (record {
       same-area = known .same-area;
-      same-check = known .same-check;
       taken = known .taken;
       fits = known .fits;
       crc = moved .crc;
@@ -183,42 +178,42 @@ close-keeps area checked p m known r before now meets =
       place = moved .place;
     }))
 
--- `new` and `new_no_crc` make a fresh record ..
-pub new-made : (area : ℕ) (checked : Bool) (r : MaskRomOperation) → r ≡ fresh area checked → PartMade area checked [] r
-new-made area checked r e = subst (PartMade area checked []) (sym e) no-calls
+-- `new` makes a fresh record ..
+pub new-made : (area : ℕ) (r : MaskRomOperation) → r ≡ fresh area → PartMade area [] r
+new-made area r e = subst (PartMade area []) (sym e) no-calls
 
 -- .. and all that is said of a record after the bytes p holds of every record that calls from there can make, p being what its parts took
-pub part-made : (area : ℕ) (checked : Bool) (p : List ℕ) (m : MaskRomOperation) → PartMade area checked p m → PartAfter area checked p m
-part-made area checked p m no-calls = fresh-after area checked
-part-made area checked p m (part-call q here calls part r before now meets) =
-    part-keeps area checked q here (part-made area checked q here calls) r part before now meets
-part-made area checked p m (close-call q here calls r before now meets) =
-    close-keeps area checked q here (part-made area checked q here calls) r before now meets
+pub part-made : (area : ℕ) (p : List ℕ) (m : MaskRomOperation) → PartMade area p m → PartAfter area p m
+part-made area p m no-calls = fresh-after area
+part-made area p m (part-call q here calls part r before now meets) =
+    part-keeps area q here (part-made area q here calls) r part before now meets
+part-made area p m (close-call q here calls r before now meets) =
+    close-keeps area q here (part-made area q here calls) r before now meets
 
 -- what holds at each place
-module _ (area : ℕ) (checked : Bool) (p : List ℕ) (m : MaskRomOperation) (known : PartAfter area checked p m) where
-  pub part-writing : m .steps ≡ Writing → m .crc ≡ register checked start p
+module _ (area : ℕ) (p : List ℕ) (m : MaskRomOperation) (known : PartAfter area p m) where
+  pub part-writing : m .steps ≡ Writing → m .crc ≡ crcOver start p
   unfolding covers
-  part-writing e = known .crc ∙ ap (λ (s : MaskRomSteps). register checked start (covers s p)) e
+  part-writing e = known .crc ∙ ap (λ (s : MaskRomSteps). crcOver start (covers s p)) e
 
-  pub part-check : m .steps ≡ Check → (length p % blockSize ≡ 4095) × (m .crc ≡ register checked start (p ++ (0 ∷ [])))
+  pub part-check : m .steps ≡ Check → (length p % blockSize ≡ 4095) × (m .crc ≡ crcOver start (p ++ (0 ∷ [])))
   unfolding covers
   part-check e =
       let place = subst (λ (s : MaskRomSteps). PartPlace s (length p)) e (known .place) in
-      (place, known .crc ∙ ap (λ (s : MaskRomSteps). register checked start (covers s p)) e ∙ ap (register checked start) (padded-pad p place))
+      (place, known .crc ∙ ap (λ (s : MaskRomSteps). crcOver start (covers s p)) e ∙ ap (crcOver start) (padded-pad p place))
 
-  pub part-dummy : m .steps ≡ Dummy → (length p % blockSize ≡ 4094) × (m .crc ≡ register checked start p)
+  pub part-dummy : m .steps ≡ Dummy → (length p % blockSize ≡ 4094) × (m .crc ≡ crcOver start p)
   unfolding covers
   part-dummy e =
       let place = subst (λ (s : MaskRomSteps). PartPlace s (length p)) e (known .place) in
-      (place, known .crc ∙ ap (λ (s : MaskRomSteps). register checked start (covers s p)) e ∙ ap (register checked start) (padded-not p (omega (arith, place))))
+      (place, known .crc ∙ ap (λ (s : MaskRomSteps). crcOver start (covers s p)) e ∙ ap (crcOver start) (padded-not p (omega (arith, place))))
 
-  pub part-done : m .steps ≡ Done → m .crc ≡ register checked start (padded p)
+  pub part-done : m .steps ≡ Done → m .crc ≡ crcOver start (padded p)
   unfolding covers
-  part-done e = known .crc ∙ ap (λ (s : MaskRomSteps). register checked start (covers s p)) e
+  part-done e = known .crc ∙ ap (λ (s : MaskRomSteps). crcOver start (covers s p)) e
 
 -- a transfer that a part sends is the last 4,096 bytes of all that was taken
-module _ (area : ℕ) (checked : Bool) (p : List ℕ) (m : MaskRomOperation) (known : PartAfter area checked p m) where
+module _ (area : ℕ) (p : List ℕ) (m : MaskRomOperation) (known : PartAfter area p m) where
   sends-last : (ys : List ℕ) → waiting m + length ys ≡ 4096 → held m ++ ys ≡ lastOf 4096 (p ++ ys)
   sends-last ys e =
       let from : length p - length p % 4096 ≡ length (p ++ ys) - 4096 = simp length-append (omega (arith, known .taken)) in

@@ -1,7 +1,7 @@
 -- "The first closing step shuts the image": at every record, also at those that no fresh start makes, and whatever calls follow.
 use Prim.Native.Nat.{ℕ, _<_, _≤_}
 use mathlib.Core.Path.{_≡_, refl, ap, ap₂, sym, _∙_}
-use mathlib.Core.Bool.{Bool, true}
+use mathlib.Core.Bool.{true}
 use mathlib.Core.List.{List, [], _++_}
 use native.Mathlib.Omega.{arith}
 use native.Mathlib.Decide.{ℕ-discrete, decLt}
@@ -26,19 +26,19 @@ use Rattle.maskrom.proofs.Branches.{clash, as-step}
 held-short : (m : MaskRomOperation) → length (held m) < 4096
 held-short m = simp length-take (omega arith)
 
-writing-shuts : (checked : Bool) (crc : ℕ) (w : List ℕ) → Dec (length w < 4094) → Dec (length w ≡ 4094) → length w < 4096
-    → closed (writing checked crc w .steps) ≡ true
+writing-shuts : (crc : ℕ) (w : List ℕ) → Dec (length w < 4094) → Dec (length w ≡ 4094) → length w < 4096
+    → closed (writing crc w .steps) ≡ true
 unfolding closed
-writing-shuts checked crc w (yes l) d h = ap (λ (to : Moves). closed (to .steps)) (writing-last checked crc w l)
-writing-shuts checked crc w (no l) (yes e) h = ap (λ (to : Moves). closed (to .steps)) (writing-dummy checked crc w e)
-writing-shuts checked crc w (no l) (no d) h = ap (λ (to : Moves). closed (to .steps)) (writing-pad checked crc w (omega arith))
+writing-shuts crc w (yes l) d h = ap (λ (to : Moves). closed (to .steps)) (writing-last crc w l)
+writing-shuts crc w (no l) (yes e) h = ap (λ (to : Moves). closed (to .steps)) (writing-dummy crc w e)
+writing-shuts crc w (no l) (no d) h = ap (λ (to : Moves). closed (to .steps)) (writing-pad crc w (omega arith))
 
-moves-shut : (s : MaskRomSteps) (checked : Bool) (crc : ℕ) (w : List ℕ) → length w < 4096 → closed (movesAt s checked crc w .steps) ≡ true
+moves-shut : (s : MaskRomSteps) (crc : ℕ) (w : List ℕ) → length w < 4096 → closed (movesAt s crc w .steps) ≡ true
 unfolding movesAt closed
-moves-shut Writing checked crc w h = writing-shuts checked crc w (decLt (length w) 4094) (ℕ-discrete (length w) 4094) h
-moves-shut Check checked crc w h = refl
-moves-shut Dummy checked crc w h = refl
-moves-shut Done checked crc w h = refl
+moves-shut Writing crc w h = writing-shuts crc w (decLt (length w) 4094) (ℕ-discrete (length w) 4094) h
+moves-shut Check crc w h = refl
+moves-shut Dummy crc w h = refl
+moves-shut Done crc w h = refl
 
 -- a closing step
 module _ (r : CloseStepped) (m : MaskRomOperation) (before now : List ℕ) (meets : CloseMeets r m before now) where
@@ -46,7 +46,7 @@ module _ (r : CloseStepped) (m : MaskRomOperation) (before now : List ℕ) (meet
   unfolding after
   shuts h =
       ap (λ (n : MaskRomOperation). closed (n .steps)) (meets .next ∙ ap (after m) (close-acts m (length before) h))
-      ∙ moves-shut (m .steps) (m .checked) (m .crc) (held m) (held-short m)
+      ∙ moves-shut (m .steps) (m .crc) (held m) (held-short m)
 
   room-by : (a : Asks) → stepTold (r .step) ≡ given a → Dec (length before < 4096) → 4096 ≤ length before
   unfolding said

@@ -7,13 +7,14 @@ use native.Mathlib.Omega.{arith}
 use native.Mathlib.Decide.{decLt}
 use lib.ListN.{length, take, drop, length-take}
 use lib.Seq.{drop-append-add, drop-drop}
+use Rattle.crc.specs.Check.{crcOver}
 use Rattle.promise.specs.Told.{Told, given}
 use Rattle.promise.specs.Bytes.{front}
 use Rattle.promise.specs.Rules.{tooShort, differs}
 use Rattle.promise.specs.Does.{Does, said, sent}
 use Rattle.maskrom_transfer.specs.declared.MaskRomSteps.{MaskRomSteps}
 use Rattle.maskrom_transfer.specs.declared.MaskRomSteps.the-variants.{Writing, Check, Dummy, Done}
-use Rattle.maskrom_transfer.specs.Moves.{blockSize, register, movesAt}
+use Rattle.maskrom_transfer.specs.Moves.{blockSize, movesAt}
 use Rattle.maskrom.specs.declared.Control.{Control}
 use Rattle.maskrom.specs.declared.MaskRomOperation.{MaskRomOperation}
 use Rattle.maskrom.specs.declared.WholeUpload.{WholeUpload}
@@ -121,7 +122,7 @@ module _ (r : CloseStepped) (m : MaskRomOperation) (before now : List ℕ) (meet
       → FirstBytes (m .area) c before now)
       m (length before)
       (λ e few leaves. clash (writes c) tooShort [] (sym e))
-      (λ e few leaves. puts (m .steps) (m .area) c (movesAt (m .steps) (m .checked) (m .crc) (held m) .bytes) before now few e leaves)
+      (λ e few leaves. puts (m .steps) (m .area) c (movesAt (m .steps) (m .crc) (held m) .bytes) before now few e leaves)
       (sym (meets .tells) ∙ told) (close-writes m (length before)) (meets .leaves)
 
   pub close-transfer : c ≡ control (m .area) (c .size)
@@ -146,7 +147,7 @@ module _ (r : WholeStepped) (u : WholeUpload) (image before now : List ℕ) (mee
       (λ e few leaves. clash (writes c) differs [] (sym e))
       (λ l e few leaves.
       let w = chunk u image in
-      puts (u .steps) (u .area) c (movesAt (u .steps) (u .checked) (register (u .checked) (u .crc) w) w .bytes) before now few e leaves)
+      puts (u .steps) (u .area) c (movesAt (u .steps) (crcOver (u .crc) w) w .bytes) before now few e leaves)
       (sym (meets .tells) ∙ told) (whole-writes u image (length before)) (meets .leaves)
 
   pub step-transfer : c ≡ control (u .area) (c .size)

@@ -1,7 +1,6 @@
 -- Two answers that one promise allows are equal: the record handed back and the bytes left are the promise's, and so nothing is open.
 use Prim.Native.Nat.{ℕ, _<_}
 use mathlib.Core.Path.{_≡_, refl, ap, ap₂, sym, _∙_}
-use mathlib.Core.Bool.{Bool}
 use mathlib.Core.List.{List}
 use lib.ListN.{length}
 use lib.Dec.{eqb}
@@ -96,8 +95,8 @@ step-one r r′ u image old new new′ p q =
     let s = same (stepTold (r .step)) (stepTold (r′ .step)) (r .next) (r′ .next) u old new new′ (wholeStep u image (length old)) p q in
     (ap₂ steppedWith (one stepTold stepOf step-back (r .step) (r′ .step) (s .tells)) (s .next), s .leaves)
 
-pub start-one : (r r′ : WholeStart) (area : ℕ) (checked : Bool) (image : List ℕ)
-    → StartMeets r area checked image → StartMeets r′ area checked image → r ≡ r′
-start-one r r′ area checked image p q =
+pub start-one : (r r′ : WholeStart) (area : ℕ) (image : List ℕ)
+    → StartMeets r area image → StartMeets r′ area image → r ≡ r′
+start-one r r′ area image p q =
     ap₂ (λ (s : UploadStart) (u : WholeUpload). record { start = s; upload = u })
     (one startTold startOf start-back (r .start) (r′ .start) (p .tells ∙ sym (q .tells))) (p .next ∙ sym (q .next))

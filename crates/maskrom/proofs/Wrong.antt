@@ -1,7 +1,6 @@
 -- Programs that the contracts rule out: each theorem is that the wrong program's answer does not meet the contract at a named input.
 use Prim.Native.Nat.{ℕ, _<_, _≤_}
 use mathlib.Core.Path.{_≡_, refl, ap, sym, _∙_}
-use mathlib.Core.Bool.{Bool, true, false}
 use mathlib.Core.List.{List, [], _∷_}
 use native.Mathlib.Omega.{arith}
 use lib.ListN.{length, replicate}
@@ -28,33 +27,28 @@ use Rattle.maskrom.specs.PartWise.{fresh, withBlock, closed, takes, part
 use Rattle.maskrom.specs.Whole.{freshWhole, startStep, StartMeets, most, sendsOn, wholeStep}
 use Rattle.maskrom.proofs.Cases.{part-takes}
 
--- `new` and `new_no_crc`: one record for both
-pub check-dropped : (r : MaskRomOperation) (area : ℕ) → r ≡ fresh area true → r ≡ fresh area false → ⊥
-check-dropped r area on off =
-    let differ : _≡_ {A = ℕ} 1 0 = ap (λ (m : MaskRomOperation). pick (m .checked) 1 0) (sym on ∙ off) in omega arith
-
--- `new` and `new_no_crc`: one record for every area
-pub area-dropped : (r : MaskRomOperation) (checked : Bool) → r ≡ fresh 0 checked → r ≡ fresh 1 checked → ⊥
-area-dropped r checked zero one =
+-- `new`: one record for every area
+pub area-dropped : (r : MaskRomOperation) → r ≡ fresh 0 → r ≡ fresh 1 → ⊥
+area-dropped r zero one =
     let differ : _≡_ {A = ℕ} 0 1 = ap (λ (m : MaskRomOperation). m .area) (sym zero ∙ one) in omega arith
 
--- `new` and `new_no_crc`: a check that starts at 0
-pub another-start : (r : MaskRomOperation) (area : ℕ) (checked : Bool) → r .crc ≡ 0 → r ≡ fresh area checked → ⊥
-another-start r area checked zero begun =
+-- `new`: a check that starts at 0
+pub another-start : (r : MaskRomOperation) (area : ℕ) → r .crc ≡ 0 → r ≡ fresh area → ⊥
+another-start r area zero begun =
     let differ : _≡_ {A = ℕ} 0 0xFFFF = sym zero ∙ ap (λ (m : MaskRomOperation). m .crc) begun in omega arith
 
 -- `part`: the output written while the block is not full
 pub writes-when-not-full : (r : PartStepped) (old new : List ℕ) → 4096 ≤ length old → (new ≡ old → ⊥)
-    → Meets (partTold (r .step)) (r .next) old new (fresh 0 true) (partStep (fresh 0 true) (1 ∷ []) (length old)) → ⊥
+    → Meets (partTold (r .step)) (r .next) old new (fresh 0) (partStep (fresh 0) (1 ∷ []) (length old)) → ⊥
 unfolding sent takes closed
 writes-when-not-full r old new h changed meets =
     changed
     (meets .leaves
-    ∙ ap (λ (t : Told (Does Handed MaskRomOperation)). front (sent t) old) (part-takes (fresh 0 true) (1 ∷ []) (length old) h refl (lit≤ tt)))
+    ∙ ap (λ (t : Told (Does Handed MaskRomOperation)). front (sent t) old) (part-takes (fresh 0) (1 ∷ []) (length old) h refl (lit≤ tt)))
 
 -- one byte before the longest image
 abbrev pub nearly : MaskRomOperation
-nearly = withBlock (fresh 0 true) 4294967294 0 (replicate 4096 0)
+nearly = withBlock (fresh 0) 4294967294 0 (replicate 4096 0)
 
 -- `part`: an image of 4,294,967,295 bytes refused
 pub longest-refused : (r : PartStepped) (old new : List ℕ) → partTold (r .step) ≡ refused tooLong []
@@ -70,46 +64,40 @@ areaOf (refused n vs) = 0
 
 -- `close`: a transfer to another area
 pub close-area-lost : (r : CloseStepped) (c : Control) (old new : List ℕ) → stepTold (r .step) ≡ given (writes c) → c .index ≡ 0
-    → Meets (stepTold (r .step)) (r .next) old new (fresh 1 true) (closeStep (fresh 1 true) 4096) → ⊥
+    → Meets (stepTold (r .step)) (r .next) old new (fresh 1) (closeStep (fresh 1) 4096) → ⊥
 unfolding closeStep andThen sendStep orRefuse movesAt writing asks said areaOf
 close-area-lost r c old new told zero meets =
     let differ : _≡_ {A = ℕ} 0 1 = sym zero ∙ ap areaOf (sym told ∙ meets .tells) in omega arith
 
 -- `close`: a step that leaves the record as it was
-pub close-does-nothing : (r : CloseStepped) (old new : List ℕ) → r .next ≡ fresh 1 true
-    → Meets (stepTold (r .step)) (r .next) old new (fresh 1 true) (closeStep (fresh 1 true) 4096) → ⊥
+pub close-does-nothing : (r : CloseStepped) (old new : List ℕ) → r .next ≡ fresh 1
+    → Meets (stepTold (r .step)) (r .next) old new (fresh 1) (closeStep (fresh 1) 4096) → ⊥
 unfolding closeStep andThen sendStep orRefuse movesAt writing after closed
 close-does-nothing r old new same meets =
     let differ : _≡_ {A = ℕ} 0 1 = ap (λ (m : MaskRomOperation). pick (closed (m .steps)) 1 0) (sym same ∙ meets .next) in omega arith
 
--- `write_area` and `write_area_no_crc`: one start for both
-pub start-check-dropped : (r : WholeStart) (area : ℕ) → StartMeets r area true [] → StartMeets r area false [] → ⊥
+-- `write_area`: beside a refused start a record of another length
+pub refused-start-keeps-length : (r : WholeStart) (area : ℕ) (image : List ℕ) → longest < length image
+    → r .upload .length ≡ 1 → StartMeets r area image → ⊥
 unfolding startStep orRefuse after
-start-check-dropped r area on off =
-    let differ : _≡_ {A = ℕ} 1 0 = ap (λ (u : WholeUpload). pick (u .checked) 1 0) (sym (on .next) ∙ off .next) in omega arith
-
--- `write_area` and `write_area_no_crc`: beside a refused start a record of another length
-pub refused-start-keeps-length : (r : WholeStart) (area : ℕ) (checked : Bool) (image : List ℕ) → longest < length image
-    → r .upload .length ≡ 1 → StartMeets r area checked image → ⊥
-unfolding startStep orRefuse after
-refused-start-keeps-length r area checked image h one meets =
-    let refusing : startStep area checked image ≡ refused tooLong [] = rw (lt-ltb longest (length image) h) in
+refused-start-keeps-length r area image h one meets =
+    let refusing : startStep area image ≡ refused tooLong [] = rw (lt-ltb longest (length image) h) in
     let differ : _≡_ {A = ℕ} 1 0 =
-    sym one ∙ ap (λ (u : WholeUpload). u .length) (meets .next ∙ ap (after (freshWhole area checked 0)) refusing) in
+    sym one ∙ ap (λ (u : WholeUpload). u .length) (meets .next ∙ ap (after (freshWhole area 0)) refusing) in
     omega arith
 
--- `write_area` and `write_area_no_crc`: an image of 4,294,967,295 bytes refused
-pub longest-start-refused : (r : WholeStart) (area : ℕ) (checked : Bool) (image : List ℕ) → length image ≡ longest
-    → startTold (r .start) ≡ refused tooLong [] → StartMeets r area checked image → ⊥
+-- `write_area`: an image of 4,294,967,295 bytes refused
+pub longest-start-refused : (r : WholeStart) (area : ℕ) (image : List ℕ) → length image ≡ longest
+    → startTold (r .start) ≡ refused tooLong [] → StartMeets r area image → ⊥
 unfolding startStep orRefuse said number
-longest-start-refused r area checked image e told meets =
-    let starts : number (said (startStep area checked image)) ≡ 0 = rw (le-ltb longest (length image) (omega arith)) in
+longest-start-refused r area image e told meets =
+    let starts : number (said (startStep area image)) ≡ 0 = rw (le-ltb longest (length image) (omega arith)) in
     let differ : _≡_ {A = ℕ} 25 0 = ap number (sym told ∙ meets .tells) ∙ starts in
     omega arith
 
 -- a whole upload of one byte
 abbrev pub whole : WholeUpload
-whole = freshWhole 1 true 1
+whole = freshWhole 1 1
 
 -- `step`: 27 against what was taken and not against the length
 pub another-length : (r : WholeStepped) (old new : List ℕ) → stepTold (r .step) ≡ refused differs []

@@ -1,15 +1,14 @@
 -- Records that calls from a fresh start can make, and what is known of such a record once the bytes `p` are taken.
 use Prim.Native.Nat.{ℕ, _-_, _%_, _≤_}
 use mathlib.Core.Path.{_≡_}
-use mathlib.Core.Bool.{Bool}
 use mathlib.Core.List.{List, [], _∷_, _++_}
 use lib.ListN.{length, drop}
 use lib.Dec.{eqb, ltb}
 use Rattle.promise.specs.Rules.{pick}
-use Rattle.crc.specs.Check.{start}
+use Rattle.crc.specs.Check.{start, crcOver}
 use Rattle.maskrom_transfer.specs.declared.MaskRomSteps.{MaskRomSteps}
 use Rattle.maskrom_transfer.specs.declared.MaskRomSteps.the-variants.{Writing, Check, Dummy, Done}
-use Rattle.maskrom_transfer.specs.Moves.{blockSize, register}
+use Rattle.maskrom_transfer.specs.Moves.{blockSize}
 use Rattle.maskrom.specs.declared.MaskRomOperation.{MaskRomOperation}
 use Rattle.maskrom.specs.declared.WholeUpload.{WholeUpload}
 use Rattle.maskrom.specs.declared.WholeStart.{WholeStart}
@@ -45,19 +44,18 @@ PartPlace Dummy n = n % blockSize ≡ 4094
 PartPlace Done n = Unit
 
 -- a part-wise upload once the bytes p are taken: their number, their check, and as the bytes that wait the last of them, |p| mod 4,096
-pub record PartAfter (area : ℕ) (checked : Bool) (p : List ℕ) (m : MaskRomOperation) : Type 0 where
+pub record PartAfter (area : ℕ) (p : List ℕ) (m : MaskRomOperation) : Type 0 where
   pub same-area : m .area ≡ area
-  pub same-check : m .checked ≡ checked
   pub taken : m .taken ≡ length p
   pub fits : length p ≤ longest
-  pub crc : m .crc ≡ register checked start (covers (m .steps) p)
+  pub crc : m .crc ≡ crcOver start (covers (m .steps) p)
   pub waits : held m ≡ lastOf (length p % blockSize) p
   pub whole-block : length (m .block) ≡ blockSize
   pub place : PartPlace (m .steps) (length p)
 
--- `new` (checked) or `new_no_crc`, then any calls, whose parts took p
-abbrev pub PartMade : ℕ → Bool → List ℕ → MaskRomOperation → Type 0
-PartMade area checked p m = PartCalls (fresh area checked) p m
+-- `new`, then any calls, whose parts took p
+abbrev pub PartMade : ℕ → List ℕ → MaskRomOperation → Type 0
+PartMade area p m = PartCalls (fresh area) p m
 
 -- whole, of an image of so many bytes: after how many an upload may stand here
 abbrev pub WholePlace : MaskRomSteps → ℕ → ℕ → Type 0
@@ -67,22 +65,21 @@ WholePlace Dummy whole n = (n ≡ whole) × (n % blockSize ≡ 4094)
 WholePlace Done whole n = n ≡ whole
 
 -- a whole upload of an image of so many bytes, once the bytes p are taken
-pub record WholeAfter (area : ℕ) (checked : Bool) (whole : ℕ) (p : List ℕ) (u : WholeUpload) : Type 0 where
+pub record WholeAfter (area whole : ℕ) (p : List ℕ) (u : WholeUpload) : Type 0 where
   pub same-area : u .area ≡ area
-  pub same-check : u .checked ≡ checked
   pub same-length : u .length ≡ whole
   pub fits : whole ≤ longest
   pub taken : u .taken ≡ length p
   pub within : length p ≤ whole
-  pub crc : u .crc ≡ register checked start (covers (u .steps) p)
+  pub crc : u .crc ≡ crcOver start (covers (u .steps) p)
   pub place : WholePlace (u .steps) whole (length p)
 
 -- the length that a start keeps: the image's, and 0 beside a refusal
 unfoldable pub startLength : List ℕ → ℕ
 startLength image = pick (ltb longest (length image)) 0 (length image)
 
--- `write_area` (checked) or `write_area_no_crc` of an image, refused or not, then any steps, which took p
-pub record WholeMade (lends : List ℕ → Type 0) (area : ℕ) (checked : Bool) (image p : List ℕ) (u : WholeUpload) : Type 0 where
+-- `write_area` of an image, refused or not, then any steps, which took p
+pub record WholeMade (lends : List ℕ → Type 0) (area : ℕ) (image p : List ℕ) (u : WholeUpload) : Type 0 where
   pub begun : WholeStart
-  pub starts : StartMeets begun area checked image
+  pub starts : StartMeets begun area image
   pub calls : WholeCalls lends (begun .upload) p u

@@ -6,20 +6,19 @@ use lib.ListN.{length, take, drop, replicate}
 use lib.Dec.{eqb, ltb}
 use Rattle.promise.specs.Told.{Told, given, andThen}
 use Rattle.promise.specs.Rules.{pick, rule, unless, roomRule}
-use Rattle.crc.specs.Check.{start}
+use Rattle.crc.specs.Check.{start, crcOver}
 use Rattle.maskrom_transfer.specs.declared.MaskRomSteps.{MaskRomSteps}
 use Rattle.maskrom_transfer.specs.declared.MaskRomSteps.the-variants.{Writing, Check, Dummy, Done}
 use Rattle.maskrom.specs.declared.MaskRomOperation.{MaskRomOperation}
 use Rattle.maskrom_transfer.specs.declared.Moved.{Moved}
-use Rattle.maskrom_transfer.specs.Moves.{blockSize, register}
+use Rattle.maskrom_transfer.specs.Moves.{blockSize}
 use Rattle.maskrom.specs.Answers.{longest, tooLong, closedAlready, control, Handed, took, filled, Asks, writes, finish}
 use Rattle.promise.specs.Does.{Does, does}
 use Rattle.maskrom_transfer.specs.Sending.{sendStep}
 
-abbrev pub fresh : ℕ → Bool → MaskRomOperation
-fresh area checked = record {
+abbrev pub fresh : ℕ → MaskRomOperation
+fresh area = record {
   area = area;
-  checked = checked;
   taken = 0;
   crc = start;
   steps = Writing;
@@ -43,7 +42,6 @@ closed Done = true
 abbrev pub withBlock : MaskRomOperation → ℕ → ℕ → List ℕ → MaskRomOperation
 withBlock m taken crc block = record {
   area = m .area;
-  checked = m .checked;
   taken = taken;
   crc = crc;
   steps = m .steps;
@@ -53,7 +51,7 @@ withBlock m taken crc block = record {
 -- the record once `ys` are taken: they stand behind the bytes that waited
 abbrev pub holding : MaskRomOperation → List ℕ → MaskRomOperation
 holding m ys =
-    withBlock m (m .taken + length ys) (register (m .checked) (m .crc) ys)
+    withBlock m (m .taken + length ys) (crcOver (m .crc) ys)
     (held m ++ (ys ++ drop (waiting m + length ys) (m .block)))
 
 -- "says how many it took, and puts a full transfer in the first 4,096 output bytes"
@@ -83,7 +81,6 @@ asks Done area n = finish
 abbrev pub withMoved : MaskRomOperation → ℕ → MaskRomSteps → MaskRomOperation
 withMoved m crc steps = record {
   area = m .area;
-  checked = m .checked;
   taken = m .taken;
   crc = crc;
   steps = steps;
@@ -98,4 +95,4 @@ closes m d =
 -- "The first closing step shuts the image": from then on nothing but its next transfer comes; "closing 20"
 unfoldable pub closeStep : MaskRomOperation → ℕ → Told (Does Asks MaskRomOperation)
 closeStep m room =
-    andThen (sendStep (m .steps) (m .checked) (m .crc) (held m) room) (λ (d : Does Moved Unit). given (closes m d))
+    andThen (sendStep (m .steps) (m .crc) (held m) room) (λ (d : Does Moved Unit). given (closes m d))

@@ -1,11 +1,9 @@
 // An image is uploaded in control writes of 4,096 bytes and a shorter last one, handed over part by part (`MaskRomOperation`) or lent whole at
 // every step (`write_area`, `WholeUpload`).
 ghost use mathlib.Core.Path.{_≡_};
-ghost use mathlib.Core.Bool.{true, false};
 ghost use Prim.Native.Nat.{_+_, _≤_, min};
 ghost use lib.ListN.{length, take};
 ghost use Rattle.promise.specs.Told.{given, number};
-ghost use Rattle.maskrom_transfer.specs.Moves.{register};
 ghost use Rattle.promise.specs.Does.{Meets};
 ghost use Rattle.maskrom.specs.Answers.{control, partTold, stepTold, startTold};
 ghost use Rattle.maskrom.specs.PartWise.{fresh, waiting, withBlock, holding, asks, withMoved};
@@ -51,7 +49,6 @@ pub enum UploadStep {
 // A part-wise upload. The first `taken % 4096` bytes of the block wait for their transfer; the check covers all that was taken.
 pub struct MaskRomOperation {
     pub area: u16,
-    pub checked: bool,
     pub taken: u32,
     pub crc: u16,
     pub steps: MaskRomSteps,
@@ -71,7 +68,6 @@ pub struct CloseStepped {
 // A whole upload, of an image that is lent at every step.
 pub struct WholeUpload {
     pub area: u16,
-    pub checked: bool,
     pub length: u32,
     pub taken: u32,
     pub crc: u16,
@@ -162,31 +158,18 @@ fn asked(steps: MaskRomSteps, area: u16, size: usize) -> UploadStep
     }
 }
 
-fn new_operation(area: u16, checked: bool) -> MaskRomOperation
-    ensures { λ r. ⌜ r ≡ fresh area checked ⌝ }
-{
-    let block = [0u8; 4096];
-    MaskRomOperation {
-        area,
-        checked,
-        taken: 0,
-        crc: CRC_START,
-        steps: MaskRomSteps::Writing,
-        block,
-    }
-}
-
 impl MaskRomOperation {
     pub fn new(area: u16) -> MaskRomOperation
-        ensures { λ r. ⌜ r ≡ fresh area true ⌝ }
+        ensures { λ r. ⌜ r ≡ fresh area ⌝ }
     {
-        new_operation(area, true)
-    }
-
-    pub fn new_no_crc(area: u16) -> MaskRomOperation
-        ensures { λ r. ⌜ r ≡ fresh area false ⌝ }
-    {
-        new_operation(area, false)
+        let block = [0u8; 4096];
+        MaskRomOperation {
+            area,
+            taken: 0,
+            crc: CRC_START,
+            steps: MaskRomSteps::Writing,
+            block,
+        }
     }
 
     fn with(self, taken: u32, crc: u16, block: [u8; 4096]) -> MaskRomOperation
@@ -195,7 +178,6 @@ impl MaskRomOperation {
         let steps = self.steps;
         MaskRomOperation {
             area: self.area,
-            checked: self.checked,
             taken,
             crc,
             steps,
@@ -211,7 +193,7 @@ impl MaskRomOperation {
         let at = (self.taken % 4096) as usize;
         let mut block = self.block;
         bytes::copy(more, &mut block[at..]);
-        let crc = maskrom_transfer::covered(self.checked, self.crc, more);
+        let crc = crc::update(self.crc, more);
         self.with(self.taken + (more.len() as u32), crc, block)
     }
 
@@ -254,7 +236,6 @@ impl MaskRomOperation {
         let block = self.block;
         MaskRomOperation {
             area: self.area,
-            checked: self.checked,
             taken: self.taken,
             crc: moved.crc,
             steps,
@@ -275,7 +256,7 @@ impl MaskRomOperation {
         let n = (self.taken % 4096) as usize;
         let steps = self.steps;
         let block = self.block;
-        let sent = maskrom_transfer::send(steps, self.checked, self.crc, block, n, out);
+        let sent = maskrom_transfer::send(steps, self.crc, block, n, out);
         let Sent::Moved(to) = sent else {
             return self.after_close(UploadStep::OutputTooShort);
         };
@@ -284,12 +265,11 @@ impl MaskRomOperation {
     }
 }
 
-fn new_whole(area: u16, checked: bool, length: u32) -> WholeUpload
-    ensures { λ r. ⌜ r ≡ freshWhole area checked length ⌝ }
+fn new_whole(area: u16, length: u32) -> WholeUpload
+    ensures { λ r. ⌜ r ≡ freshWhole area length ⌝ }
 {
     WholeUpload {
         area,
-        checked,
         length,
         taken: 0,
         crc: CRC_START,
@@ -297,36 +277,23 @@ fn new_whole(area: u16, checked: bool, length: u32) -> WholeUpload
     }
 }
 
-fn start_whole(area: u16, checked: bool, image: &[u8]) -> WholeStart
-    ensures { λ r. ⌜ StartMeets r area checked (now (image .entry)) ⌝ }
+// Starts the upload of a whole image.
+pub fn write_area(area: u16, image: &[u8]) -> WholeStart
+    ensures { λ r. ⌜ StartMeets r area (now (image .entry)) ⌝ }
 {
     let n = image.len();
     if LONGEST < n {
-        let upload = new_whole(area, checked, 0);
+        let upload = new_whole(area, 0);
         return WholeStart {
             start: UploadStart::ImageTooLong,
             upload,
         };
     }
-    let upload = new_whole(area, checked, n as u32);
+    let upload = new_whole(area, n as u32);
     WholeStart {
         start: UploadStart::Started,
         upload,
     }
-}
-
-// Starts the upload of a whole image with its check.
-pub fn write_area(area: u16, image: &[u8]) -> WholeStart
-    ensures { λ r. ⌜ StartMeets r area true (now (image .entry)) ⌝ }
-{
-    start_whole(area, true, image)
-}
-
-// Starts the upload of a whole image with 00 00 in the place of its check.
-pub fn write_area_no_crc(area: u16, image: &[u8]) -> WholeStart
-    ensures { λ r. ⌜ StartMeets r area false (now (image .entry)) ⌝ }
-{
-    start_whole(area, false, image)
 }
 
 // How many bytes of the image go with the next step, of those that are left.
@@ -357,7 +324,6 @@ impl WholeUpload {
         let steps = to.steps;
         WholeUpload {
             area: self.area,
-            checked: self.checked,
             length: self.length,
             taken: self.taken + (n as u32),
             crc: to.crc,
@@ -377,9 +343,9 @@ impl WholeUpload {
     {
         let n = chunk.len();
         let steps = self.steps;
-        let crc = maskrom_transfer::covered(self.checked, self.crc, chunk);
+        let crc = crc::update(self.crc, chunk);
         let block = block_of(chunk);
-        let sent = maskrom_transfer::send(steps, self.checked, crc, block, n, out);
+        let sent = maskrom_transfer::send(steps, crc, block, n, out);
         let Sent::Moved(to) = sent else {
             return self.after_step(UploadStep::OutputTooShort);
         };

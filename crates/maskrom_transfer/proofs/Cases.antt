@@ -1,44 +1,37 @@
 -- One law for each branch of a definition, and what the promises of callers are made from.
 use Prim.Native.Nat.{ℕ, _<_, _≤_}
 use mathlib.Core.Path.{_≡_, refl, ap, ap₂, sym, subst, _∙_}
-use mathlib.Core.Bool.{Bool, true, false}
 use mathlib.Core.List.{List, [], _∷_, _++_}
 use native.Mathlib.Omega.{arith}
 use lib.ListN.{length}
 use borrow.Author.Tests.{eq-eqb, ne-eqb, lt-ltb, le-ltb}
+use Rattle.crc.specs.Check.{crcOver}
 use Rattle.promise.specs.Told.{Told, given, refused, andThen}
 use Rattle.promise.specs.Rules.{orRefuse, tooShort}
 use Rattle.promise.specs.Bytes.{front}
-use Rattle.promise.proofs.Order.{length-high-first}
 use Rattle.maskrom_transfer.specs.declared.Moved.{Moved}
 use Rattle.maskrom_transfer.specs.declared.MaskRomSteps.{MaskRomSteps}
 use Rattle.maskrom_transfer.specs.declared.MaskRomSteps.the-variants.{Writing, Check, Dummy, Done}
-use Rattle.maskrom_transfer.specs.Moves.{checkBytes, Moves, register, moves, writing, movesAt}
+use Rattle.maskrom_transfer.specs.Moves.{checkBytes, Moves, moves, writing, movesAt}
 use Rattle.maskrom_transfer.specs.Code.{SendMeets}
 use Rattle.promise.specs.Does.{Does, does, said, sent, after, Meets}
 use Rattle.maskrom_transfer.specs.Sending.{moved, sendStep}
 
--- the check is two bytes, or two zeros
-pub length-check : (checked : Bool) (crc : ℕ) → length (checkBytes checked crc) ≡ 2
-unfolding checkBytes
-length-check true crc = length-high-first 2 crc
-length-check false crc = refl
-
-module _ (checked : Bool) (crc : ℕ) (w : List ℕ) where
-  pub writing-block : length w ≡ 4096 → writing checked crc w ≡ moves w crc Writing
+module _ (crc : ℕ) (w : List ℕ) where
+  pub writing-block : length w ≡ 4096 → writing crc w ≡ moves w crc Writing
   unfolding writing
   writing-block e = rw (eq-eqb (length w) 4096 e)
 
-  pub writing-pad : length w ≡ 4095 → writing checked crc w ≡ moves (w ++ (0 ∷ [])) (register checked crc (0 ∷ [])) Check
+  pub writing-pad : length w ≡ 4095 → writing crc w ≡ moves (w ++ (0 ∷ [])) (crcOver crc (0 ∷ [])) Check
   unfolding writing
   writing-pad e = rw (ne-eqb (length w) 4096 (omega arith), eq-eqb (length w) 4095 e)
 
-  pub writing-dummy : length w ≡ 4094 → writing checked crc w ≡ moves (w ++ checkBytes checked crc) crc Dummy
+  pub writing-dummy : length w ≡ 4094 → writing crc w ≡ moves (w ++ checkBytes crc) crc Dummy
   unfolding writing
   writing-dummy e =
       rw (ne-eqb (length w) 4096 (omega arith), ne-eqb (length w) 4095 (omega arith), eq-eqb (length w) 4094 e)
 
-  pub writing-last : length w < 4094 → writing checked crc w ≡ moves (w ++ checkBytes checked crc) crc Done
+  pub writing-last : length w < 4094 → writing crc w ≡ moves (w ++ checkBytes crc) crc Done
   unfolding writing
   writing-last h =
       rw (ne-eqb (length w) 4096 (omega arith), ne-eqb (length w) 4095 (omega arith), ne-eqb (length w) 4094 (omega arith))
@@ -50,22 +43,22 @@ meets size crc crc′ steps bs bs′ old new h e k =
     subst (λ (l : List ℕ). SendMeets (record { size = size; crc = crc; steps = steps }) old new (moves l crc′ steps)) e
     (record { size = h .0; crc = k; steps = refl; leaves = h .1 })
 
-pub at-steps : (r : Moved) (old new : List ℕ) (checked : Bool) (crc : ℕ) (w : List ℕ) {x y : MaskRomSteps} → x ≡ y
-    → SendMeets r old new (movesAt y checked crc w) → SendMeets r old new (movesAt x checked crc w)
-at-steps r old new checked crc w e = subst (λ (x : MaskRomSteps). SendMeets r old new (movesAt x checked crc w)) (sym e)
+pub at-steps : (r : Moved) (old new : List ℕ) (crc : ℕ) (w : List ℕ) {x y : MaskRomSteps} → x ≡ y
+    → SendMeets r old new (movesAt y crc w) → SendMeets r old new (movesAt x crc w)
+at-steps r old new crc w e = subst (λ (x : MaskRomSteps). SendMeets r old new (movesAt x crc w)) (sym e)
 
 pub moved-is : (r : Moved) (old new : List ℕ) (to : Moves) → SendMeets r old new to → r ≡ moved to
 moved-is r old new to m =
     ap₂ (λ (n c : ℕ). record { size = n; crc = c; steps = r .steps }) (m .size) (m .crc)
     ∙ ap (λ (s : MaskRomSteps). record { size = length (to .bytes); crc = to .crc; steps = s }) (m .steps)
 
-module _ (steps : MaskRomSteps) (checked : Bool) (crc : ℕ) (w : List ℕ) (room : ℕ) where
-  pub send-20 : room < 4096 → sendStep steps checked crc w room ≡ refused tooShort []
+module _ (steps : MaskRomSteps) (crc : ℕ) (w : List ℕ) (room : ℕ) where
+  pub send-20 : room < 4096 → sendStep steps crc w room ≡ refused tooShort []
   unfolding sendStep orRefuse
   send-20 h = rw (lt-ltb room 4096 h)
 
   pub send-acts : 4096 ≤ room
-      → sendStep steps checked crc w room ≡ given (does (moved (movesAt steps checked crc w)) (movesAt steps checked crc w .bytes) tt)
+      → sendStep steps crc w room ≡ given (does (moved (movesAt steps crc w)) (movesAt steps crc w .bytes) tt)
   unfolding sendStep orRefuse
   send-acts h = rw (le-ltb room 4096 h)
 

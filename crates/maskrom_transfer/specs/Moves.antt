@@ -1,6 +1,5 @@
 -- One step of an image of which no more will come: the bytes of its transfer, the register behind it, and where the upload then stands.
 use Prim.Native.Nat.{ℕ}
-use mathlib.Core.Bool.{Bool}
 use mathlib.Core.List.{List, [], _∷_, _++_}
 use lib.ListN.{length}
 use lib.Dec.{eqb}
@@ -14,13 +13,9 @@ use Rattle.maskrom_transfer.specs.declared.MaskRomSteps.the-variants.{Wr
 abbrev pub blockSize : ℕ
 blockSize = 4096
 
--- "the check .., high byte first, or 00 00"
-unfoldable pub checkBytes : Bool → ℕ → List ℕ
-checkBytes checked crc = pick checked (highFirst 2 crc) (0 ∷ 0 ∷ [])
-
--- the register once it covers these bytes too; without a check it stays
-unfoldable pub register : Bool → ℕ → List ℕ → ℕ
-register checked crc bs = pick checked (crcOver crc bs) crc
+-- "the check .., high byte first"
+abbrev pub checkBytes : ℕ → List ℕ
+checkBytes crc = highFirst 2 crc
 
 pub record Moves : Type 0 where
   pub bytes : List ℕ
@@ -32,14 +27,14 @@ moves bs crc steps = record { bytes = bs; crc = crc; steps = steps }
 
 -- `w` is the next of the image, a whole block unless it is the last, and the register covers it: a whole block goes as it is, 4,095 bytes with
 -- the pad and before the check, anything else with the check; after 4,094 the last zero is left
-unfoldable pub writing : Bool → ℕ → List ℕ → Moves
-writing checked crc w =
+unfoldable pub writing : ℕ → List ℕ → Moves
+writing crc w =
     pick (eqb (length w) blockSize) (moves w crc Writing)
-    (pick (eqb (length w) 4095) (moves (w ++ (0 ∷ [])) (register checked crc (0 ∷ [])) Check)
-    (moves (w ++ checkBytes checked crc) crc (pick (eqb (length w) 4094) Dummy Done)))
+    (pick (eqb (length w) 4095) (moves (w ++ (0 ∷ [])) (crcOver crc (0 ∷ [])) Check)
+    (moves (w ++ checkBytes crc) crc (pick (eqb (length w) 4094) Dummy Done)))
 
-unfoldable pub movesAt : MaskRomSteps → Bool → ℕ → List ℕ → Moves
-movesAt Writing checked crc w = writing checked crc w
-movesAt Check checked crc w = moves (checkBytes checked crc) crc Done
-movesAt Dummy checked crc w = moves (0 ∷ []) crc Done
-movesAt Done checked crc w = moves [] crc Done
+unfoldable pub movesAt : MaskRomSteps → ℕ → List ℕ → Moves
+movesAt Writing crc w = writing crc w
+movesAt Check crc w = moves (checkBytes crc) crc Done
+movesAt Dummy crc w = moves (0 ∷ []) crc Done
+movesAt Done crc w = moves [] crc Done

@@ -1,6 +1,5 @@
 -- One transfer put into the output, or the refusal of an output that is too short for any.
 use Prim.Native.Nat.{ℕ}
-use mathlib.Core.Bool.{Bool}
 use mathlib.Core.List.{List, [], _∷_}
 use lib.ListN.{length}
 use lib.Dec.{ltb}
@@ -21,7 +20,7 @@ sentTold sent.OutputTooShort = refused tooShort []
 abbrev pub moved : Moves → Moved
 moved to = record { size = length (to .bytes); crc = to .crc; steps = to .steps }
 
-unfoldable pub sendStep : MaskRomSteps → Bool → ℕ → List ℕ → ℕ → Told (Does Moved Unit)
-sendStep steps checked crc w room =
-    let to = movesAt steps checked crc w in
+unfoldable pub sendStep : MaskRomSteps → ℕ → List ℕ → ℕ → Told (Does Moved Unit)
+sendStep steps crc w room =
+    let to = movesAt steps crc w in
     unless (roomRule room blockSize ∷ []) (given (does (moved to) (to .bytes) tt))

@@ -3,9 +3,9 @@ ghost use mathlib.Core.Path.{_≡_};
 ghost use mathlib.Core.List.{[], _∷_, _++_};
 ghost use Prim.Native.Nat.{_+_, _≤_, min};
 ghost use lib.ListN.{length, take};
-ghost use Rattle.promise.specs.Bytes.{front, highFirst};
+ghost use Rattle.promise.specs.Bytes.{front};
 ghost use Rattle.promise.specs.Told.{number};
-ghost use Rattle.maskrom_transfer.specs.Moves.{checkBytes, register, writing, movesAt};
+ghost use Rattle.maskrom_transfer.specs.Moves.{checkBytes, writing, movesAt};
 ghost use Rattle.maskrom_transfer.specs.Code.{SendMeets};
 ghost use Rattle.promise.specs.Does.{Meets};
 ghost use Rattle.maskrom_transfer.specs.Sending.{sentTold, sendStep};
@@ -50,17 +50,6 @@ fn least(a: usize, b: usize) -> usize
     if a < b { a } else { b }
 }
 
-// Without a check nothing is worked out.
-pub fn covered(checked: bool, crc: u16, bytes: &[u8]) -> u16
-    ensures { λ r. ⌜ r ≡ register checked crc (now (bytes .entry)) ⌝ }
-{
-    if checked {
-        crc::update(crc, bytes)
-    } else {
-        crc
-    }
-}
-
 fn with_zero(block: [u8; 4096], n: usize) -> [u8; 4096]
     requires { ⌜ n + 1 ≤ 4096 ⌝ }
     ensures { λ r. ⌜ take (n + 1) r ≡ take n block ++ (0 ∷ []) ⌝ }
@@ -70,16 +59,9 @@ fn with_zero(block: [u8; 4096], n: usize) -> [u8; 4096]
     b
 }
 
-// The two bytes of the check, as a number.
-fn shown(checked: bool, crc: u16) -> u16
-    ensures { λ r. ⌜ highFirst 2 r ≡ checkBytes checked crc ⌝ }
-{
-    if checked { crc } else { 0 }
-}
-
 fn with_check(block: [u8; 4096], n: usize, check: u16) -> [u8; 4096]
     requires { ⌜ n + 2 ≤ 4096 ⌝ }
-    ensures { λ r. ⌜ take (n + 2) r ≡ take n block ++ highFirst 2 check ⌝ }
+    ensures { λ r. ⌜ take (n + 2) r ≡ take n block ++ checkBytes check ⌝ }
 {
     let mut b = block;
     b[n] = (check / 256) as u8;
@@ -96,9 +78,9 @@ fn put(block: [u8; 4096], n: usize, out: &mut [u8]) -> usize
 }
 
 // The next n bytes of the image stand at the front of the block, and the check covers them.
-fn write_on(checked: bool, crc: u16, block: [u8; 4096], n: usize, out: &mut [u8]) -> Moved
+fn write_on(crc: u16, block: [u8; 4096], n: usize, out: &mut [u8]) -> Moved
     requires { ⌜ (n ≤ 4096) × (4096 ≤ length (now out)) ⌝ }
-    ensures { λ r. ⌜ SendMeets r (now (out .entry)) (now (out .exit)) (writing checked crc (take n block)) ⌝ }
+    ensures { λ r. ⌜ SendMeets r (now (out .entry)) (now (out .exit)) (writing crc (take n block)) ⌝ }
 {
     if n == 4096 {
         let size = put(block, n, out);
@@ -109,11 +91,11 @@ fn write_on(checked: bool, crc: u16, block: [u8; 4096], n: usize, out: &mut [u8]
         let padded = with_zero(block, n);
         let size = put(padded, n + 1, out);
         let zero = [0u8; 1];
-        let crc = covered(checked, crc, &zero);
+        let crc = crc::update(crc, &zero);
         let steps = MaskRomSteps::Check;
         return Moved { size, crc, steps };
     }
-    let last = with_check(block, n, shown(checked, crc));
+    let last = with_check(block, n, crc);
     let size = put(last, n + 2, out);
     if n == 4094 {
         let steps = MaskRomSteps::Dummy;
@@ -126,21 +108,14 @@ fn write_on(checked: bool, crc: u16, block: [u8; 4096], n: usize, out: &mut [u8]
     }
 }
 
-fn send_at(
-    steps: MaskRomSteps,
-    checked: bool,
-    crc: u16,
-    block: [u8; 4096],
-    n: usize,
-    out: &mut [u8],
-) -> Moved
+fn send_at(steps: MaskRomSteps, crc: u16, block: [u8; 4096], n: usize, out: &mut [u8]) -> Moved
     requires { ⌜ (n ≤ 4096) × (4096 ≤ length (now out)) ⌝ }
-    ensures { λ r. ⌜ SendMeets r (now (out .entry)) (now (out .exit)) (movesAt steps checked crc (take n block)) ⌝ }
+    ensures { λ r. ⌜ SendMeets r (now (out .entry)) (now (out .exit)) (movesAt steps crc (take n block)) ⌝ }
 {
     match steps {
-        MaskRomSteps::Writing => write_on(checked, crc, block, n, out),
+        MaskRomSteps::Writing => write_on(crc, block, n, out),
         MaskRomSteps::Check => {
-            let last = with_check(block, 0, shown(checked, crc));
+            let last = with_check(block, 0, crc);
             let size = put(last, 2, out);
             Moved {
                 size,
@@ -166,20 +141,13 @@ fn send_at(
 }
 
 // One step of an image of which no more will come: the first n bytes of the block are what is left of it, and the check covers them.
-pub fn send(
-    steps: MaskRomSteps,
-    checked: bool,
-    crc: u16,
-    block: [u8; 4096],
-    n: usize,
-    out: &mut [u8],
-) -> Sent
-    ensures { λ r. ⌜ Meets (sentTold r) tt (now (out .entry)) (now (out .exit)) tt (sendStep steps checked crc (take n block) (length (now (out .entry)))) ⌝ }
+pub fn send(steps: MaskRomSteps, crc: u16, block: [u8; 4096], n: usize, out: &mut [u8]) -> Sent
+    ensures { λ r. ⌜ Meets (sentTold r) tt (now (out .entry)) (now (out .exit)) tt (sendStep steps crc (take n block) (length (now (out .entry)))) ⌝ }
 {
     if out.len() < BLOCK {
         return Sent::OutputTooShort;
     }
     let left = least(n, BLOCK);
-    let to = send_at(steps, checked, crc, block, left, out);
+    let to = send_at(steps, crc, block, left, out);
     Sent::Moved(to)
 }

@@ -6,13 +6,14 @@ use mathlib.Core.List.{List, [], _∷_}
 use native.Mathlib.Omega.{arith}
 use lib.ListN.{length}
 use lib.Dec.{ltb, eqb}
+use Rattle.crc.specs.Check.{crcOver}
 use Rattle.promise.specs.Told.{Told, given, refused, andThen}
 use Rattle.promise.specs.Rules.{orRefuse, pick, differs, tooShort}
 use Rattle.maskrom_transfer.specs.declared.MaskRomSteps.{MaskRomSteps}
 use Rattle.maskrom_transfer.specs.declared.MaskRomSteps.the-variants.{Writing, Check, Dummy, Done}
 use Rattle.maskrom_transfer.specs.declared.Moved.{Moved}
 use Rattle.promise.specs.Does.{Does, does, said, sent}
-use Rattle.maskrom_transfer.specs.Moves.{Moves, register, movesAt, blockSize}
+use Rattle.maskrom_transfer.specs.Moves.{Moves, movesAt, blockSize}
 use Rattle.maskrom_transfer.specs.Sending.{moved, sendStep}
 use Rattle.maskrom.specs.declared.Control.{Control}
 use Rattle.maskrom.specs.declared.WholeUpload.{WholeUpload}
@@ -54,4 +55,4 @@ whole-sized u image room =
     let on = sendsOn u w room in
     sized-pick (ltb room blockSize) (refused tooShort []) (pick (not (eqb (length image) (u .length))) (refused differs []) on) (sized-refused WholeUpload tooShort [])
     (sized-pick (not (eqb (length image) (u .length))) (refused differs []) on (sized-refused WholeUpload differs [])
-    (sized-then (ltb room blockSize) u w (movesAt (u .steps) (u .checked) (register (u .checked) (u .crc) w) w)))
+    (sized-then (ltb room blockSize) u w (movesAt (u .steps) (crcOver (u .crc) w) w)))

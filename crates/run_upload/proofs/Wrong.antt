@@ -5,12 +5,13 @@ use mathlib.Core.Bool.{false}
 use mathlib.Core.List.{List, [], _∷_}
 use native.Mathlib.Omega.{arith}
 use lib.ListN.{length}
+use Rattle.crc.specs.Check.{crcOver}
 use Rattle.promise.specs.Told.{Told, given, refused, number, andThen}
 use Rattle.promise.specs.Rules.{orRefuse}
 use Rattle.promise.proofs.Outcome.{either-way}
 use Rattle.maskrom_transfer.specs.declared.MaskRomSteps.the-variants.{Writing, Done}
 use Rattle.promise.specs.Does.{said, sent, after}
-use Rattle.maskrom_transfer.specs.Moves.{register, writing, movesAt}
+use Rattle.maskrom_transfer.specs.Moves.{writing, movesAt}
 use Rattle.maskrom_transfer.specs.Sending.{sendStep}
 use Rattle.maskrom.specs.declared.WholeUpload.{WholeUpload}
 use Rattle.maskrom.specs.PartWise.{asks}
@@ -34,7 +35,7 @@ use Rattle.run_upload.proofs.Unique.{stateFor, state-for}
 
 -- an upload that has sent all that it had to, and two of which nothing is sent: of no byte, and of one
 abbrev sentAll : WholeUpload
-sentAll = record { area = 0; checked = false; length = 0; taken = 0; crc = 0; steps = Done }
+sentAll = record { area = 0; length = 0; taken = 0; crc = 0; steps = Done }
 
 abbrev ofNothing : WholeUpload
 ofNothing = freshWhole 0 false 0
@@ -50,7 +51,7 @@ state-onward (refused n values) s = refl
 
 module _ (device : MockState) (store : List ℕ) where
   turn-ends : loadTurn [] (loadState sentAll device store) ≡ ends (given tt) (loadState sentAll device store)
-  unfolding loadTurn carries wholeStep sendsOn sendStep orRefuse andThen said sent after movesAt register asks most
+  unfolding loadTurn carries wholeStep sendsOn sendStep orRefuse andThen said sent after movesAt crcOver asks most
   turn-ends = refl
 
   turn-differs : loadTurn [] (loadState ofOne device store) ≡ ends (refused 27 []) (loadState ofOne device store)
@@ -76,7 +77,7 @@ module _ (device : MockState) (store : List ℕ) where
 
     -- an upload that stays where it stood
     pub upload-stays : TurnMeets r left (loadTurn [] (loadState ofNothing device store)) → r .upload ≡ ofNothing → ⊥
-    unfolding loadTurn carries wholeStep sendsOn sendStep orRefuse andThen said sent after movesAt writing register asks most
+    unfolding loadTurn carries wholeStep sendsOn sendStep orRefuse andThen said sent after movesAt writing crcOver asks most
     upload-stays meets e =
         let s = loadState (r .upload) (r .device) left in
         let states : s ≡ _ = sym (state-for (r .turn) s) ∙ ap stateFor (meets .tells) ∙ state-onward _ _ in

@@ -10,9 +10,9 @@ use native.Mathlib.Decide.{ℕ-discrete}
 use borrow.Author.Tests.{le-ltb, ne-eqb}
 use Rattle.promise.specs.Rules.{orRefuse}
 use Rattle.promise.specs.Told.{given}
-use Rattle.crc.specs.Check.{start}
+use Rattle.crc.specs.Check.{start, crcOver}
 use Rattle.maskrom.specs.declared.WholeUpload.{WholeUpload}
-use Rattle.maskrom_transfer.specs.Moves.{blockSize, register}
+use Rattle.maskrom_transfer.specs.Moves.{blockSize}
 use Rattle.maskrom.specs.Answers.{longest}
 use Rattle.maskrom.specs.Made.{pad}
 use Rattle.theorems.specs.UploadBytes.{lastZero, uploadBytes, cut, total}
@@ -27,95 +27,95 @@ use Rattle.theorems.proofs.WholeSends.{image-sends}
 use Rattle.theorems.proofs.PartsSend.{Open, left, due, parts-end}
 
 -- what a fresh upload has to send: the upload's bytes, cut into transfers
-pub start-due : (area : ℕ) (checked : Bool) (image : List ℕ) → due (fresh area checked) image ≡ transfersOf area checked image
+pub start-due : (area : ℕ) (image : List ℕ) → due (fresh area) image ≡ transfersOf area image
 unfolding transfersOf left
-start-due area checked image =
+start-due area image =
     ap (λ (l : List ℕ). map (transfer area) (cut l))
-    (ap (λ (k : ℕ). image ++ ending checked (register checked start image) k) (zero-add (length image)) ∙ sym (upload-ending checked image))
+    (ap (λ (k : ℕ). image ++ ending (crcOver start image) k) (zero-add (length image)) ∙ sym (upload-ending image))
 
-pub fresh-open : (area : ℕ) (checked : Bool) → Open (fresh area checked)
-fresh-open area checked = record { writes-on = refl; block-long = length-replicate {A = ℕ} 4096 0 }
+pub fresh-open : (area : ℕ) → Open (fresh area)
+fresh-open area block-long = length-replicate {A = ℕ} 4096 0 }
 
 -- DEMAND 3, for one caller, who cuts an image of at most 4,294,967,295 bytes into parts in any way, empty ones too: he hands them over in order to a fresh
 -- upload, with an output of a block at least, hands over again what was not taken, then closes and steps to the finish. No call is refused, the driving
 -- ends, and the transfers are those of the upload's bytes. `AnyCaller` has it for every caller.
-pub any-cut : (area : ℕ) (checked : Bool) (image : List ℕ) (parts : List (List ℕ)) (out : List ℕ)
+pub any-cut : (area : ℕ) (image : List ℕ) (parts : List (List ℕ)) (out : List ℕ)
     → flatten parts ≡ image → length image ≤ longest → blockSize ≤ length out
-    → driveParts area checked parts out ≡ ended (transfersOf area checked image)
+    → driveParts area parts out ≡ ended (transfersOf area image)
 unfolding driveParts
-any-cut area checked image parts out e l h =
+any-cut area image parts out e l h =
     let n : 0 + length (flatten parts) ≤ longest = omega (arith, ap length e) in
-    parts-end parts (fresh area checked) out (fresh-open area checked) h n
-    ∙ ap (λ (l : List ℕ). ended (due (fresh area checked) l)) e
-    ∙ ap ended (start-due area checked image)
+    parts-end parts (fresh area) out (fresh-open area) h n
+    ∙ ap (λ (l : List ℕ). ended (due (fresh area) l)) e
+    ∙ ap ended (start-due area image)
 
-pub upload-length : (checked : Bool) (image : List ℕ) → length (uploadBytes checked image) ≡ total (length image)
+pub upload-length : (image : List ℕ) → length (uploadBytes image) ≡ total (length image)
 unfolding total
-upload-length checked image =
-    ap length (upload-ending checked image)
-    ∙ length-append image (ending checked (register checked start image) (length image))
-    ∙ ap (λ (k : ℕ). length image + k) (length-ending checked (register checked start image) (length image))
+upload-length image =
+    ap length (upload-ending image)
+    ∙ length-append image (ending (crcOver start image) (length image))
+    ∙ ap (λ (k : ℕ). length image + k) (length-ending (crcOver start image) (length image))
 
 -- "floor(T/4,096)+1 transfers"
-pub how-many : (area : ℕ) (checked : Bool) (image : List ℕ) → length (transfersOf area checked image) ≡ total (length image) / blockSize + 1
+pub how-many : (area : ℕ) (image : List ℕ) → length (transfersOf area image) ≡ total (length image) / blockSize + 1
 unfolding transfersOf
-how-many area checked image =
-    length-map (cut (uploadBytes checked image)) (transfer area) ∙ cut-many (uploadBytes checked image)
-    ∙ ap (λ (k : ℕ). k / 4096 + 1) (upload-length checked image)
+how-many area image =
+    length-map (cut (uploadBytes image)) (transfer area) ∙ cut-many (uploadBytes image)
+    ∙ ap (λ (k : ℕ). k / 4096 + 1) (upload-length image)
 
 -- a whole upload in its first state
-pub started : (area : ℕ) (checked : Bool) (image : List ℕ) → length image ≤ longest
-    → startStep area checked image ≡ given (does tt [] (freshWhole area checked (length image)))
+pub started : (area : ℕ) (image : List ℕ) → length image ≤ longest
+    → startStep area image ≡ given (does tt [] (freshWhole area (length image)))
 unfolding startStep orRefuse
-started area checked image l = rw (le-ltb longest (length image) l)
+started area image l = rw (le-ltb longest (length image) l)
 
 -- a whole upload sends the transfers of its image
-pub whole-start : (area : ℕ) (checked : Bool) (image : List ℕ)
-    → Sends (λ (u : WholeUpload) (room : ℕ). wholeStep u image room) (freshWhole area checked (length image)) (transfersOf area checked image)
+pub whole-start : (area : ℕ) (image : List ℕ)
+    → Sends (λ (u : WholeUpload) (room : ℕ). wholeStep u image room) (freshWhole area (length image)) (transfersOf area image)
 unfolding transfersOf
-whole-start area checked image =
-    rw (upload-ending checked image)
-    (image-sends image (length image / 4096) (freshWhole area checked (length image)) image refl refl refl (zero-add (length image)) refl refl)
+whole-start area image =
+    rw (upload-ending image)
+    (image-sends image (length image / 4096) (freshWhole area (length image)) image refl refl refl (zero-add (length image)) refl refl)
 
 -- THE WHOLE UPLOAD gives the same list, by floor(T/4,096)+2 steps ..
-pub whole-image : (area : ℕ) (checked : Bool) (image out : List ℕ) → length image ≤ longest → blockSize ≤ length out
-    → driveWhole (total (length image) / blockSize + 2) area checked image out ≡ ended (transfersOf area checked image)
+pub whole-image : (area : ℕ) (image out : List ℕ) → length image ≤ longest → blockSize ≤ length out
+    → driveWhole (total (length image) / blockSize + 2) area image out ≡ ended (transfersOf area image)
 unfolding driveWhole onStart said after
-whole-image area checked image out l h =
-    rw (started area checked image l)
-    (enough (λ (u : WholeUpload) (room : ℕ). wholeStep u image room) (total (length image) / 4096 + 2) (freshWhole area checked (length image)) (transfersOf area checked image) out
-    (whole-start area checked image) h (omega (arith, how-many area checked image)))
+whole-image area image out l h =
+    rw (started area image l)
+    (enough (λ (u : WholeUpload) (room : ℕ). wholeStep u image room) (total (length image) / 4096 + 2) (freshWhole area (length image)) (transfersOf area image) out
+    (whole-start area image) h (omega (arith, how-many area image)))
 
 -- .. and no fewer
-pub no-fewer : (area : ℕ) (checked : Bool) (image out : List ℕ) (k : ℕ) → length image ≤ longest → blockSize ≤ length out
-    → k < total (length image) / blockSize + 2 → driveWhole k area checked image out ≡ unending
+pub no-fewer : (area : ℕ) (image out : List ℕ) (k : ℕ) → length image ≤ longest → blockSize ≤ length out
+    → k < total (length image) / blockSize + 2 → driveWhole k area image out ≡ unending
 unfolding driveWhole onStart said after
-no-fewer area checked image out k l h f =
-    rw (started area checked image l)
-    (needed (λ (u : WholeUpload) (room : ℕ). wholeStep u image room) k (freshWhole area checked (length image)) (transfersOf area checked image) out
-    (whole-start area checked image) h (omega (arith, how-many area checked image)))
+no-fewer area image out k l h f =
+    rw (started area image l)
+    (needed (λ (u : WholeUpload) (room : ℕ). wholeStep u image room) k (freshWhole area (length image)) (transfersOf area image) out
+    (whole-start area image) h (omega (arith, how-many area image)))
 
 -- whichever way it was handed over
-pub same-list : (area : ℕ) (checked : Bool) (image : List ℕ) (parts : List (List ℕ)) (out out′ : List ℕ)
+pub same-list : (area : ℕ) (image : List ℕ) (parts : List (List ℕ)) (out out′ : List ℕ)
     → flatten parts ≡ image → length image ≤ longest → blockSize ≤ length out → blockSize ≤ length out′
-    → driveParts area checked parts out ≡ driveWhole (total (length image) / blockSize + 2) area checked image out′
-same-list area checked image parts out out′ e l h h′ = any-cut area checked image parts out e l h ∙ sym (whole-image area checked image out′ l h′)
+    → driveParts area parts out ≡ driveWhole (total (length image) / blockSize + 2) area image out′
+same-list area image parts out out′ e l h h′ = any-cut area image parts out e l h ∙ sym (whole-image area image out′ l h′)
 
 bytes-of : (area : ℕ) (ls : List (List ℕ)) → map (λ (t : Transfer). t .bytes) (map (transfer area) ls) ≡ ls
 bytes-of area [] = refl
 bytes-of area (l ∷ ls) = ap (λ (r : List (List ℕ)). l ∷ r) (bytes-of area ls)
 
 -- the list is the upload's bytes ..
-pub nothing-lost : (area : ℕ) (checked : Bool) (image : List ℕ)
-    → flatten (map (λ (t : Transfer). t .bytes) (transfersOf area checked image)) ≡ uploadBytes checked image
+pub nothing-lost : (area : ℕ) (image : List ℕ)
+    → flatten (map (λ (t : Transfer). t .bytes) (transfersOf area image)) ≡ uploadBytes image
 unfolding transfersOf
-nothing-lost area checked image = ap flatten (bytes-of area (cut (uploadBytes checked image))) ∙ cut-joins (uploadBytes checked image)
+nothing-lost area image = ap flatten (bytes-of area (cut (uploadBytes image))) ∙ cut-joins (uploadBytes image)
 
 -- .. each transfer 4,096 long but the last
-pub sizes : (checked : Bool) (image : List ℕ)
-    → map length (cut (uploadBytes checked image)) ≡ replicate (total (length image) / blockSize) blockSize ++ (total (length image) % blockSize ∷ [])
-sizes checked image =
-    cut-sizes (uploadBytes checked image) ∙ ap (λ (k : ℕ). replicate (k / 4096) 4096 ++ (k % 4096 ∷ [])) (upload-length checked image)
+pub sizes : (image : List ℕ)
+    → map length (cut (uploadBytes image)) ≡ replicate (total (length image) / blockSize) blockSize ++ (total (length image) % blockSize ∷ [])
+sizes image =
+    cut-sizes (uploadBytes image) ∙ ap (λ (k : ℕ). replicate (k / 4096) 4096 ++ (k % 4096 ∷ [])) (upload-length image)
 
 total-by : (n : ℕ) → Dec (n % 4096 ≡ 4095) → Dec (n % 4096 ≡ 4094) → 0 < total n % 4096
 unfolding total pad lastZero

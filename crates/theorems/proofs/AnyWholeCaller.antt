@@ -7,12 +7,13 @@ use native.Mathlib.Omega.{arith}
 use native.Mathlib.Decide.{decLt}
 use lib.ListN.{length, take, drop}
 use borrow.Author.Tests.{lt-ltb}
+use Rattle.crc.specs.Check.{crcOver}
 use Rattle.promise.specs.Told.{Told, given, refused}
 use Rattle.promise.specs.Rules.{orRefuse, tooShort}
 use Rattle.promise.specs.Bytes.{front}
 use Rattle.promise.specs.Does.{Does, said, sent, after}
 use Rattle.maskrom_transfer.specs.declared.MaskRomSteps.the-variants.{Done}
-use Rattle.maskrom_transfer.specs.Moves.{blockSize, moves, register, movesAt}
+use Rattle.maskrom_transfer.specs.Moves.{blockSize, moves, movesAt}
 use Rattle.maskrom.specs.declared.WholeUpload.{WholeUpload}
 use Rattle.maskrom.specs.declared.WholeStart.{WholeStart}
 use Rattle.maskrom.specs.declared.WholeStepped.{WholeStepped}
@@ -25,7 +26,7 @@ use Rattle.theorems.specs.PartDriver.{Transfer, transfersOf}
 use Rattle.maskrom.specs.Calls.{StepMeets}
 use Rattle.theorems.specs.AnyCaller.{askedSeen, Stepped, begun, stepping, no-step, WholeFinishes, whole-finishes}
 use Rattle.theorems.proofs.StepsToFinish.{Sends, finishes, sends}
-use Rattle.maskrom.proofs.Register.{register-empty}
+use Rattle.crc.proofs.Laws.{over-empty}
 use Rattle.theorems.proofs.WholeSends.{whole-goes, done}
 use Rattle.theorems.proofs.AnyCut.{started, whole-start}
 use Rattle.theorems.proofs.OneCall.{not-both, refused-stays, asks-finish, same-given, writes-finish}
@@ -49,8 +50,8 @@ module _ (image : List ℕ) where
       unfolding said
       whole-done =
           let w = take (most (u .steps)) (drop (u .taken) image) in
-          let c = register (u .checked) (u .crc) w in
-          let to = movesAt (u .steps) (u .checked) c w in
+          let c = crcOver (u .crc) w in
+          let to = movesAt (u .steps) c w in
           asks-finish (u .steps) (u .area) (length (to .bytes))
           (same-given finish (asks (u .steps) (u .area) (length (to .bytes)))
           (sym g ∙ meets .tells ∙ ap said (whole-goes image u (u .steps) w c to l refl refl refl refl (length before) (whole-long finish g))))
@@ -61,15 +62,15 @@ module _ (image : List ℕ) where
           let next-is : r .next ≡ sentOn u 0 (u .crc) Done =
           meets .next
           ∙ ap (after u)
-          (whole-goes image u Done [] (u .crc) (moves [] (u .crc) Done) l whole-done refl (register-empty (u .checked) (u .crc)) refl (length before) (whole-long finish g)) in
+          (whole-goes image u Done [] (u .crc) (moves [] (u .crc) Done) l whole-done refl (over-empty (u .crc)) refl (length before) (whole-long finish g)) in
           subst (λ (x : WholeUpload). Sends step x []) (sym next-is) (done image (sentOn u 0 (u .crc) Done) l refl)
 
     whole-keeps-length : length image ≡ u .length → (a : Asks) → stepTold (r .step) ≡ given a → length image ≡ r .next .length
     unfolding after
     whole-keeps-length l a g =
         let w = take (most (u .steps)) (drop (u .taken) image) in
-        let c = register (u .checked) (u .crc) w in
-        let to = movesAt (u .steps) (u .checked) c w in
+        let c = crcOver (u .crc) w in
+        let to = movesAt (u .steps) c w in
         l ∙ sym (ap (λ (x : WholeUpload). x .length) (meets .next ∙ ap (after u) (whole-goes image u (u .steps) w c to l refl refl refl refl (length before) (whole-long a g))))
 
   -- a step that is not refused takes the first transfer of those that are due
@@ -100,32 +101,32 @@ module _ (image : List ℕ) where
       absurd (writes-finish (control area (length bs)) (sym (ap said stepped) ∙ sym (meets .tells) ∙ g))
 
   -- what is still to be sent, and that it and the transfers seen are those of the image
-  pub record Sending (area : ℕ) (checked : Bool) (u : WholeUpload) (ts : List Transfer) : Type 0 where
+  pub record Sending (area : ℕ) (u : WholeUpload) (ts : List Transfer) : Type 0 where
     pub later : List Transfer
     pub due : Sends step u later
-    pub total : ts ++ later ≡ transfersOf area checked image
+    pub total : ts ++ later ≡ transfersOf area image
     pub long : length image ≡ u .length
 
-  module _ (area : ℕ) (checked : Bool) where
-    pub too-long : longest < length image → said (startStep area checked image) ≡ refused tooLong []
+  module _ (area : ℕ) where
+    pub too-long : longest < length image → said (startStep area image) ≡ refused tooLong []
     unfolding startStep orRefuse said
     too-long h = rw (lt-ltb longest (length image) h) refl
 
-    start-by : (r : WholeStart) → StartMeets r area checked image → startTold (r .start) ≡ given tt → Dec (longest < length image) → length image ≤ longest
+    start-by : (r : WholeStart) → StartMeets r area image → startTold (r .start) ≡ given tt → Dec (longest < length image) → length image ≤ longest
     start-by r m g (yes h) = not-both tt tooLong [] (sym g ∙ m .tells ∙ too-long h)
     start-by r m g (no h) = omega arith
 
     -- an upload that is started has an image that is not too long
-    pub started-fits : (r : WholeStart) → StartMeets r area checked image → startTold (r .start) ≡ given tt → length image ≤ longest
+    pub started-fits : (r : WholeStart) → StartMeets r area image → startTold (r .start) ≡ given tt → length image ≤ longest
     started-fits r m g = start-by r m g (decLt longest (length image))
 
-    pub sending-so : (u : WholeUpload) (ts : List Transfer) → Stepped area checked image u ts → Sending area checked u ts
+    pub sending-so : (u : WholeUpload) (ts : List Transfer) → Stepped area image u ts → Sending area u ts
     unfolding after
     sending-so _ _ (begun r m g) =
-        let is : r .upload ≡ freshWhole area checked (length image) = m .next ∙ ap (after (freshWhole area checked 0)) (started area checked image (started-fits r m g)) in
+        let is : r .upload ≡ freshWhole area (length image) = m .next ∙ ap (after (freshWhole area 0)) (started area image (started-fits r m g)) in
         record {
-          later = transfersOf area checked image;
-          due = subst (λ (x : WholeUpload). Sends step x (transfersOf area checked image)) (sym is) (whole-start area checked image);
+          later = transfersOf area image;
+          due = subst (λ (x : WholeUpload). Sends step x (transfersOf area image)) (sym is) (whole-start area image);
           total = refl;
           long = sym (ap (λ (x : WholeUpload). x .length) is);
         }
@@ -149,19 +150,19 @@ module _ (image : List ℕ) where
         }
 
     -- who is answered the finish of a whole upload has seen the same list as who is answered it part by part (`any-caller`)
-    pub any-whole-caller : (ts : List Transfer) → WholeFinishes area checked image ts → ts ≡ transfersOf area checked image
+    pub any-whole-caller : (ts : List Transfer) → WholeFinishes area image ts → ts ≡ transfersOf area image
     any-whole-caller _ (whole-finishes u ts before now r d p g) =
         let s = sending-so u ts d in
         sym (append-nil ts) ∙ ap (λ (x : List Transfer). ts ++ x) (sym (whole-takes-none u (s .later) before now r (s .due) p g)) ∙ s .total
 
     -- with the image and an output of 4,096 bytes no step is refused
-    pub step-not-refused : (u : WholeUpload) (ts : List Transfer) (before now : List ℕ) (r : WholeStepped) → Stepped area checked image u ts → StepMeets r u image before now
+    pub step-not-refused : (u : WholeUpload) (ts : List Transfer) (before now : List ℕ) (r : WholeStepped) → Stepped area image u ts → StepMeets r u image before now
         → blockSize ≤ length before → (a : Asks) × (stepTold (r .step) ≡ given a)
     unfolding said
     step-not-refused u ts before now r d p h =
         let w = take (most (u .steps)) (drop (u .taken) image) in
-        let c = register (u .checked) (u .crc) w in
-        let to = movesAt (u .steps) (u .checked) c w in (
+        let c = crcOver (u .crc) w in
+        let to = movesAt (u .steps) c w in (
           asks (u .steps) (u .area) (length (to .bytes)),
           p .tells ∙ ap said (whole-goes image u (u .steps) w c to (sending-so u ts d .long) refl refl refl refl (length before) h),
         )

@@ -9,70 +9,69 @@ use lib.Dec.{eqb}
 use borrow.Author.Tests.{ne-eqb}
 use Rattle.promise.specs.Rules.{pick}
 use Rattle.promise.specs.Bytes.{highFirst}
-use Rattle.crc.specs.Check.{start, check}
-use Rattle.crc.proofs.Laws.{over-append}
-use Rattle.maskrom_transfer.specs.Moves.{checkBytes, register}
+use Rattle.crc.specs.Check.{start, check, crcOver}
+use Rattle.crc.proofs.Laws.{over-append, over-empty}
+use Rattle.maskrom_transfer.specs.Moves.{checkBytes}
 use Rattle.maskrom_transfer.proofs.Cases.{length-check}
-use Rattle.maskrom.proofs.Register.{register-empty, register-append}
 use Rattle.maskrom.specs.Made.{pad}
 use Rattle.theorems.specs.UploadBytes.{lastZero, uploadBytes}
 
 unfoldable pub ending : Bool → ℕ → ℕ → List ℕ
-ending checked crc n = pad n ++ (checkBytes checked (register checked crc (pad n)) ++ lastZero n)
+ending crc n = pad n ++ (checkBytes (crcOver crc (pad n)) ++ lastZero n)
 
-same-check : (checked : Bool) (image p : List ℕ)
-    → checkBytes checked (check (image ++ p)) ≡ checkBytes checked (register checked (register checked start image) p)
-unfolding checkBytes register
+same-check : (image p : List ℕ)
+    → checkBytes (check (image ++ p)) ≡ checkBytes (crcOver (crcOver start image) p)
+unfolding checkBytes crcOver
 same-check true image p = ap (highFirst 2) (over-append start image p)
 same-check false image p = refl
 
 -- what is left of the image may be sent in two
-pub regroup : (checked : Bool) (crc n : ℕ) (xs ys : List ℕ)
-    → (xs ++ ys) ++ ending checked (register checked crc (xs ++ ys)) n ≡ xs ++ (ys ++ ending checked (register checked (register checked crc xs) ys) n)
-regroup checked crc n xs ys =
-    rw (register-append checked crc xs ys) (append-assoc xs ys (ending checked (register checked (register checked crc xs) ys) n))
+pub regroup : (crc n : ℕ) (xs ys : List ℕ)
+    → (xs ++ ys) ++ ending (crcOver crc (xs ++ ys)) n ≡ xs ++ (ys ++ ending (crcOver (crcOver crc xs) ys) n)
+regroup crc n xs ys =
+    rw (over-append crc xs ys) (append-assoc xs ys (ending (crcOver (crcOver crc xs) ys) n))
 
 -- the upload is the image and what follows it
-pub upload-ending : (checked : Bool) (image : List ℕ)
-    → uploadBytes checked image ≡ image ++ ending checked (register checked start image) (length image)
+pub upload-ending : (image : List ℕ)
+    → uploadBytes image ≡ image ++ ending (crcOver start image) (length image)
 unfolding uploadBytes ending
-upload-ending checked image =
+upload-ending image =
     let p = pad (length image) in
-    append-assoc image p (checkBytes checked (check (image ++ p)) ++ lastZero (length image))
-    ∙ ap (λ (l : List ℕ). image ++ (p ++ (l ++ lastZero (length image)))) (same-check checked image p)
+    append-assoc image p (checkBytes (check (image ++ p)) ++ lastZero (length image))
+    ∙ ap (λ (l : List ℕ). image ++ (p ++ (l ++ lastZero (length image)))) (same-check image p)
 
 -- only the length mod 4,096 counts
-pub ending-same : (checked : Bool) (crc n k : ℕ) → n % 4096 ≡ k % 4096 → ending checked crc n ≡ ending checked crc k
+pub ending-same : (crc n k : ℕ) → n % 4096 ≡ k % 4096 → ending crc n ≡ ending crc k
 unfolding ending pad lastZero
-ending-same checked crc n k e = rw e
+ending-same crc n k e = rw e
 
-module _ (checked : Bool) (crc n : ℕ) where
-  pub ending-pad : n % 4096 ≡ 4095 → ending checked crc n ≡ (0 ∷ []) ++ checkBytes checked (register checked crc (0 ∷ []))
+module _ (crc n : ℕ) where
+  pub ending-pad : n % 4096 ≡ 4095 → ending crc n ≡ (0 ∷ []) ++ checkBytes (crcOver crc (0 ∷ []))
   unfolding ending pad lastZero
   ending-pad e =
-      rw (e) (ap (λ (l : List ℕ). 0 ∷ l) (append-nil (checkBytes checked (register checked crc (0 ∷ [])))))
+      rw (e) (ap (λ (l : List ℕ). 0 ∷ l) (append-nil (checkBytes (crcOver crc (0 ∷ [])))))
 
-  pub ending-dummy : n % 4096 ≡ 4094 → ending checked crc n ≡ checkBytes checked crc ++ (0 ∷ [])
+  pub ending-dummy : n % 4096 ≡ 4094 → ending crc n ≡ checkBytes crc ++ (0 ∷ [])
   unfolding ending pad lastZero
-  ending-dummy e = rw (e, register-empty checked crc)
+  ending-dummy e = rw (e, over-empty crc)
 
-  pub ending-last : n % 4096 < 4094 → ending checked crc n ≡ checkBytes checked crc
+  pub ending-last : n % 4096 < 4094 → ending crc n ≡ checkBytes crc
   unfolding ending pad lastZero
   ending-last h =
-      rw (ne-eqb (n % 4096) 4095 (omega arith), ne-eqb (n % 4096) 4094 (omega arith), register-empty checked crc) (append-nil (checkBytes checked crc))
+      rw (ne-eqb (n % 4096) 4095 (omega arith), ne-eqb (n % 4096) 4094 (omega arith), over-empty crc) (append-nil (checkBytes crc))
 
 -- how long it is
-pub length-ending : (checked : Bool) (crc n : ℕ) → length (ending checked crc n) ≡ length (pad n) + (2 + length (lastZero n))
+pub length-ending : (crc n : ℕ) → length (ending crc n) ≡ length (pad n) + (2 + length (lastZero n))
 unfolding ending
-length-ending checked crc n =
-    let c = checkBytes checked (register checked crc (pad n)) in
+length-ending crc n =
+    let c = checkBytes (crcOver crc (pad n)) in
     length-append (pad n) (c ++ lastZero n)
-    ∙ ap (λ (k : ℕ). length (pad n) + k) (length-append c (lastZero n) ∙ ap (λ (k : ℕ). k + length (lastZero n)) (length-check checked (register checked crc (pad n))))
+    ∙ ap (λ (k : ℕ). length (pad n) + k) (length-append c (lastZero n) ∙ ap (λ (k : ℕ). k + length (lastZero n)) (length-check (crcOver crc (pad n))))
 
 pick-few : (b : Bool) → length {A = ℕ} (pick b (0 ∷ []) []) ≤ 1
 pick-few true = omega arith
 pick-few false = omega arith
 
-pub ending-few : (checked : Bool) (crc n : ℕ) → length (ending checked crc n) ≤ 4
+pub ending-few : (crc n : ℕ) → length (ending crc n) ≤ 4
 unfolding pad lastZero
-ending-few checked crc n = omega (arith, length-ending checked crc n, pick-few (eqb (n % 4096) 4095), pick-few (eqb (n % 4096) 4094))
+ending-few crc n = omega (arith, length-ending crc n, pick-few (eqb (n % 4096) 4095), pick-few (eqb (n % 4096) 4094))

@@ -43,12 +43,12 @@ module _ (v : Variety) (sectors : ℕ) (h : Head) (ready : Ready v sectors h) wh
         sized = subst Sized (sym (ap (λ (d : MockState). d .config) (idle .same))) (ready .sized);
       }
 
-  loaded : (area : ℕ) (checked : Bool) (image : List ℕ) → Ready v sectors (load area checked image h .leaves)
+  loaded : (area : ℕ) (image : List ℕ) → Ready v sectors (load area image h .leaves)
   unfolding loadOf
-  loaded area checked image =
-      let keeps = upload-keeps area checked image (length (h .flash)) (h .device) (h .store) (uploadBudget (length image)) in
+  loaded area image =
+      let keeps = upload-keeps area image (length (h .flash)) (h .device) (h .store) (uploadBudget (length image)) in
       record {
-        stands = upload-stands v (h .device) (h .flash) sectors area checked image (h .store) (uploadBudget (length image)) (ready .stands);
+        stands = upload-stands v (h .device) (h .flash) sectors area image (h .store) (uploadBudget (length image)) (ready .stands);
         sized = subst Sized (sym (ap (λ (d : MockState). d .config) (keeps .same))) (ready .sized);
       }
 

@@ -29,11 +29,11 @@ module _ (v : Variety) (device : MockState) (flash : List ℕ) (sectors : ℕ) w
       }
 
   -- after an upload, whatever it ended in
-  pub upload-stands : (area : ℕ) (checked : Bool) (image store : List ℕ) (budget : ℕ) → Standing v device flash (length store) sectors
-      → Standing v (uploadRun area checked image (length flash) device store budget .state .device) flash
-      (length (uploadRun area checked image (length flash) device store budget .state .store)) sectors
-  upload-stands area checked image store budget stands =
-      let keeps = upload-keeps area checked image (length flash) device store budget in
+  pub upload-stands : (area : ℕ) (image store : List ℕ) (budget : ℕ) → Standing v device flash (length store) sectors
+      → Standing v (uploadRun area image (length flash) device store budget .state .device) flash
+      (length (uploadRun area image (length flash) device store budget .state .store)) sectors
+  upload-stands area image store budget stands =
+      let keeps = upload-keeps area image (length flash) device store budget in
       record {
         own = ap (λ (d : MockState). d .variety) (keeps .same) ∙ stands .own;
         legal = stands .legal;

@@ -14,7 +14,7 @@ use Rattle.deck.specs.Deal.{Head, Deal}
 use Rattle.deck.specs.Dealing.{operate, load, carryOut}
 
 module _ (P : Deal → Type 0) (h : Head) (operated : (k : Kind) (c : CommandBlock) (bytes : List ℕ) → P (operate (fresh k c) bytes h))
-    (loaded : (area : ℕ) (checked : Bool) (image : List ℕ) → P (load area checked image h)) where
+    (loaded : (area : ℕ) (image : List ℕ) → P (load area image h)) where
   pub by-request : (tag : ℕ) (asked : Request) → P (carryOut tag asked h)
   unfolding carryOut
   by-request tag request.ChipInfo = operated kind.ChipInfo (chipInfoCommand tag) []

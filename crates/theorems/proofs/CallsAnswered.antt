@@ -63,7 +63,7 @@ unfolding said stepTold
 close-told m room (yes h) = (upload.OutputTooShort, sym (ap said (close-20 m room h)))
 close-told m room (no h) =
     let long : 4096 ≤ room = omega arith in
-    let x = asked-told (m .steps) (m .area) (length (movesAt (m .steps) (m .checked) (m .crc) (held m) .bytes)) in
+    let x = asked-told (m .steps) (m .area) (length (movesAt (m .steps) (m .crc) (held m) .bytes)) in
     (x .0, x .1 ∙ sym (ap said (close-acts m room long)))
 
 -- and a call of `close`
@@ -73,21 +73,21 @@ close-answered m before =
     let s = close-told m (length before) (decLt (length before) 4096) in
     (closedWith (s .0) (after m t), front (sent t) before, record { tells = s .1; next = refl; leaves = refl })
 
-module _ (area : ℕ) (checked : Bool) (image : List ℕ) (l : length image ≤ longest) (m : MaskRomOperation) (left : List ℕ) (ts : List Transfer)
-    (d : Reached area checked image m left ts) (before : List ℕ) (h : blockSize ≤ length before) where
+module _ (area : ℕ) (image : List ℕ) (l : length image ≤ longest) (m : MaskRomOperation) (left : List ℕ) (ts : List Transfer)
+    (d : Reached area image m left ts) (before : List ℕ) (h : blockSize ≤ length before) where
   -- before the image is shut, any part that begins what is left
   pub part-goes-on : (part rest : List ℕ) → closed (m .steps) ≡ false → left ≡ part ++ rest
       → (r : PartStepped) × (now : List ℕ) × (a : Handed) × PartMeets r m part before now × (partTold (r .step) ≡ given a)
-      × Reached area checked image (r .next) (drop (takenBy a) left) (ts ++ handedSeen a now)
+      × Reached area image (r .next) (drop (takenBy a) left) (ts ++ handedSeen a now)
   part-goes-on part rest c e =
       let t = part-answered m part before in
-      let g = slice-not-refused area checked image m left ts part rest before (t .1) (t .0) d l c e (t .2) h in
+      let g = slice-not-refused area image m left ts part rest before (t .1) (t .0) d l c e (t .2) h in
       (t .0, t .1, g .0, t .2, g .1, hands m left ts part rest before (t .1) (t .0) (g .0) d e (t .2) (g .1))
 
   -- and once nothing is left, a closing step
   pub closing-goes-on : left ≡ []
       → (r : CloseStepped) × (now : List ℕ) × (a : Asks) × CloseMeets r m before now × (stepTold (r .step) ≡ given a)
-      × Reached area checked image (r .next) left (ts ++ askedSeen a now)
+      × Reached area image (r .next) left (ts ++ askedSeen a now)
   closing-goes-on e =
       let t = close-answered m before in
       let g = closing-not-refused m before (t .1) (t .0) (t .2) h in

@@ -112,10 +112,10 @@ module _ (v : Variety) (config : MockDeviceConfig) (n : ℕ) where
     by-run k c bytes lun cdb opcode lent =
         run-leaves-made v config n (fresh k c) (h .device) (h .flash) bytes (length (h .store)) 4 made (command-goes-out-as-bytes (fresh k c) lun cdb opcode) lent
 
-    by-load : (area : ℕ) (checked : Bool) (image : List ℕ) → Keeps (load area checked image h .leaves)
+    by-load : (area : ℕ) (image : List ℕ) → Keeps (load area image h .leaves)
     unfolding loadOf
-    by-load area checked image =
-        upload-leaves-made v config n (freshWhole area checked (length image)) (h .device) image (h .store) (length (h .flash)) (uploadBudget (length image)) made
+    by-load area image =
+        upload-leaves-made v config n (freshWhole area (length image)) (h .device) image (h .store) (length (h .flash)) (uploadBudget (length image)) made
 
     -- a command that has no opcode, without data of its own
     plain : (k : Kind) (c : CommandBlock) → c .lun < 256 → c .«cdb_length» < 256 → c .«cd_opcode» < 256 → Keeps (operate (fresh k c) [] h .leaves)

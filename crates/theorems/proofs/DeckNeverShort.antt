@@ -52,9 +52,9 @@ module _ (h : Head) where
   unfolding operate
   operated k c bytes = numbered-not _ (fresh-never-short k c (h .device) (h .flash) bytes (length (h .store)) wholeBudget)
 
-  loaded : (area : ℕ) (checked : Bool) (image : List ℕ) → NotShort (load area checked image h .told)
+  loaded : (area : ℕ) (image : List ℕ) → NotShort (load area image h .told)
   unfolding loadOf
-  loaded area checked image = load-not _
+  loaded area image = load-not _
 
   carried : (tag : ℕ) (asked : Request) → NotShort (carryOut tag asked h .told)
   carried tag asked = by-request (λ (d : Deal). NotShort (d .told)) h operated loaded tag asked

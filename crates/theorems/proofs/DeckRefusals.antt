@@ -60,10 +60,10 @@ module _ (sectors : ℕ) (h : Head) (ready : Ready First sectors h) where
   operated k c bytes started =
       operation-numbered _ (told.operation-told First (h .device) (h .flash) bytes (length (h .store)) sectors (ready .stands) k c (ready .sized) started)
 
-  loaded : (area : ℕ) (checked : Bool) (image : List ℕ) → BenchTold (load area checked image h .told)
+  loaded : (area : ℕ) (image : List ℕ) → BenchTold (load area image h .told)
   unfolding loadOf
-  loaded area checked image =
-      upload-numbered _ (whole-upload-told area checked image (length (h .flash)) (h .device) (h .store) sectors (ready .stands .legal) (ready .stands .stored))
+  loaded area image =
+      upload-numbered _ (whole-upload-told area image (length (h .flash)) (h .device) (h .store) sectors (ready .stands .legal) (ready .stands .stored))
 
   -- the data of as many sectors is as long as they are
   lent : (count fill : ℕ) → count * 512 ≤ length (replicate (count * 512) fill)

@@ -65,25 +65,25 @@ module _ {R : Type 0} (step : R → ℕ → Told (Does Asks R)) where
       next-turn k r₁ r₂ area bs out (e (length out) h) .0 ∙ spent k r₂ us (front bs out) s (front-room bs out b h) (omega arith)
 
 -- WHOLE. An image of at most 4,294,967,295 bytes and an output of 4,096 at least
-module _ (area : ℕ) (checked : Bool) (image out : List ℕ) (l : length image ≤ longest) (h : blockSize ≤ length out) (budget r : ℕ) (now : List ℕ)
-    (meets : DriveMeets r now (wholeDrive area checked image out budget)) where
+module _ (area : ℕ) (image out : List ℕ) (l : length image ≤ longest) (h : blockSize ≤ length out) (budget r : ℕ) (now : List ℕ)
+    (meets : DriveMeets r now (wholeDrive area image out budget)) where
   abbrev begun : WholeUpload
-  begun = freshWhole area checked (length image)
+  begun = freshWhole area (length image)
 
-  pub whole-answers-0 : wholeSteps (length image) ≤ budget → (r ≡ 0) × (wholeTrace area checked image out budget ≡ transfersOf area checked image)
+  pub whole-answers-0 : wholeSteps (length image) ≤ budget → (r ≡ 0) × (wholeTrace area image out budget ≡ transfersOf area image)
   unfolding onStart onStartTrace
   whole-answers-0 b =
-      let n = how-many area checked image in
-      let d = driven (stepOf image) budget begun (transfersOf area checked image) out (whole-start area checked image) h (omega arith) in
-      let e = started area checked image l in
+      let n = how-many area image in
+      let d = driven (stepOf image) budget begun (transfersOf area image) out (whole-start area image) h (omega arith) in
+      let e = started area image l in
       (meets .tells ∙ rw e (d .0), rw e (d .1))
 
   pub whole-answers-28 : budget < wholeSteps (length image) → r ≡ 28
   unfolding onStart
   whole-answers-28 b =
-      let n = how-many area checked image in
-      let s = spent (stepOf image) budget begun (transfersOf area checked image) out (whole-start area checked image) h (omega arith) in
-      meets .tells ∙ rw (started area checked image l) s
+      let n = how-many area image in
+      let s = spent (stepOf image) budget begun (transfersOf area image) out (whole-start area image) h (omega arith) in
+      meets .tells ∙ rw (started area image l) s
 
 within : (t l y z : ℕ) → z ≡ l - y → y ≤ l → t + l ≤ longest → t + y + z ≤ longest
 within t l y z e f g = omega arith
@@ -179,17 +179,17 @@ module _ (size : ℕ) (some : 0 < size) where
   hands-over (suc budget) m left out o h l f = by-left budget m left out (decLt 0 (length left)) o h l f (λ m′ left′ out′. hands-over budget m′ left′ out′)
 
 -- an image of at most 4,294,967,295 bytes, in parts of a byte at least, and an output of 4,096 at least
-module _ (area : ℕ) (checked : Bool) (size : ℕ) (some : 0 < size) (image out : List ℕ) (l : length image ≤ longest) (h : blockSize ≤ length out) where
+module _ (area : ℕ) (size : ℕ) (some : 0 < size) (image out : List ℕ) (l : length image ≤ longest) (h : blockSize ≤ length out) where
   abbrev begins : Handing
-  begins = handing (fresh area checked) image out
+  begins = handing (fresh area) image out
 
   over-from-start : (budget : ℕ) → partBudget size (length image) ≤ budget → Over size some (callsFor size (length image)) (runs (partTurn size) budget begins)
   over-from-start budget b =
       let n = calls-at-start size some (length image) in
       subst (λ (k : ℕ). Over size some k (runs (partTurn size) budget begins)) n
-      (hands-over size some budget (fresh area checked) image out (fresh-open area checked) h (omega arith) (omega (arith, n)))
+      (hands-over size some budget (fresh area) image out (fresh-open area) h (omega arith) (omega (arith, n)))
 
-  drives-to-0 : (budget : ℕ) → partBudget size (length image) ≤ budget → partDrive area checked size image out budget .number ≡ 0
+  drives-to-0 : (budget : ℕ) → partBudget size (length image) ≤ budget → partDrive area size image out budget .number ≡ 0
   unfolding partDrive onHanded number endTold
   drives-to-0 budget b =
       let run = runs (partTurn size) budget begins in
@@ -208,16 +208,16 @@ module _ (area : ℕ) (checked : Bool) (size : ℕ) (some : 0 < size) (image out
         let few = resumed.never-more (partTurn size) budget begins in
         omega (arith, same, all, few)
 
-    by-end : (e : End Unit) → runs (partTurn size) budget begins .end ≡ e → partDrive area checked size image out budget .number ≡ 28
+    by-end : (e : End Unit) → runs (partTurn size) budget begins .end ≡ e → partDrive area size image out budget .number ≡ 28
     unfolding partDrive onHanded number endTold
     by-end (tells told) e = absurd (not-told told e)
     by-end outOfSteps e = rw e refl
 
-  module _ (budget r : ℕ) (now : List ℕ) (meets : DriveMeets r now (partDrive area checked size image out budget)) where
-    pub parts-answers-0 : partBudget size (length image) ≤ budget → (r ≡ 0) × (partTrace area checked size image out budget ≡ transfersOf area checked image)
+  module _ (budget r : ℕ) (now : List ℕ) (meets : DriveMeets r now (partDrive area size image out budget)) where
+    pub parts-answers-0 : partBudget size (length image) ≤ budget → (r ≡ 0) × (partTrace area size image out budget ≡ transfersOf area image)
     parts-answers-0 b =
         let e = drives-to-0 budget b in
-        (meets .tells ∙ e, any-caller area checked image (partTrace area checked size image out budget) (parts-is-a-caller area checked image size out budget e))
+        (meets .tells ∙ e, any-caller area image (partTrace area size image out budget) (parts-is-a-caller area image size out budget e))
 
     pub parts-answers-28 : budget < partBudget size (length image) → r ≡ 28
     parts-answers-28 f = meets .tells ∙ by-end budget f (runs (partTurn size) budget begins .end) refl

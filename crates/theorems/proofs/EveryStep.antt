@@ -22,7 +22,7 @@ use Rattle.maskrom.specs.Whole.{freshWhole, startStep, most, wholeStep}
 use Rattle.maskrom.proofs.Cases.{whole-27}
 use Rattle.theorems.proofs.ClosingSends.{close-goes}
 use Rattle.theorems.proofs.WholeSends.{whole-goes}
-use Rattle.maskrom.proofs.Register.{register-empty}
+use Rattle.crc.proofs.Laws.{over-empty}
 
 -- a record that is done finishes, and is left as it was: it finishes again, for ever
 pub close-repeats : (m : MaskRomOperation) (room : ℕ) → m .steps ≡ Done → blockSize ≤ room → closeStep m room ≡ given (does finish [] m)
@@ -31,17 +31,17 @@ close-repeats m room e h =
     close-goes m Done (moves [] (m .crc) Done) e refl room h ∙ ap (λ (s : MaskRomSteps). given (does finish [] (withMoved m (m .crc) s))) (sym e)
 
 abbrev reached : WholeUpload → ℕ → MaskRomSteps → WholeUpload
-reached u n s = record { area = u .area; checked = u .checked; length = u .length; taken = n; crc = u .crc; steps = s }
+reached u n s = record { area = u .area; length = u .length; taken = n; crc = u .crc; steps = s }
 
 pub whole-repeats : (u : WholeUpload) (image : List ℕ) (room : ℕ) → u .steps ≡ Done → length image ≡ u .length → blockSize ≤ room
     → wholeStep u image room ≡ given (does finish [] u)
 unfolding asks movesAt most
 whole-repeats u image room e l h =
-    whole-goes image u Done [] (u .crc) (moves [] (u .crc) Done) l e refl (register-empty (u .checked) (u .crc)) refl room h
+    whole-goes image u Done [] (u .crc) (moves [] (u .crc) Done) l e refl (over-empty (u .crc)) refl room h
     ∙ ap₂ (λ (n : ℕ) (s : MaskRomSteps). given (does finish [] (reached u n s))) (add-zero (u .taken)) (sym e)
 
 -- beside a refused start stands a record at which the refused image differs
-pub refused-start : (area : ℕ) (checked : Bool) (image : List ℕ) (room : ℕ) → longest < length image → blockSize ≤ room
-    → wholeStep (after (freshWhole area checked 0) (startStep area checked image)) image room ≡ refused differs []
+pub refused-start : (area : ℕ) (image : List ℕ) (room : ℕ) → longest < length image → blockSize ≤ room
+    → wholeStep (after (freshWhole area 0) (startStep area image)) image room ≡ refused differs []
 unfolding startStep orRefuse after
-refused-start area checked image room l h = rw (lt-ltb longest (length image) l) (whole-27 (freshWhole area checked 0) image room h (omega arith))
+refused-start area image room l h = rw (lt-ltb longest (length image) l) (whole-27 (freshWhole area 0) image room h (omega arith))

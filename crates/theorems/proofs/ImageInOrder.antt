@@ -36,10 +36,10 @@ taken-in-order taken left image part rest n t e h =
 fits : (t l b i p q : ℕ) → b ≡ t + l → b ≡ i → l ≡ p + q → i ≤ longest → t + p ≤ longest
 fits t l b i p q a c d e = omega arith
 
-module _ (area : ℕ) (checked : Bool) (image : List ℕ) where
+module _ (area : ℕ) (image : List ℕ) where
   -- his calls are any calls, and what was taken and what is left are the image
-  pub image-in-order : (m : MaskRomOperation) (left : List ℕ) (ts : List Transfer) → Reached area checked image m left ts
-      → (taken : List ℕ) × Called area checked m taken ts × (taken ++ left ≡ image)
+  pub image-in-order : (m : MaskRomOperation) (left : List ℕ) (ts : List Transfer) → Reached area image m left ts
+      → (taken : List ℕ) × Called area m taken ts × (taken ++ left ≡ image)
   image-in-order _ _ _ (starts m e) = ([], made m e, refl)
   image-in-order _ _ _ (hands m left ts part rest before now r a d e p g) =
       let c = image-in-order m left ts d in
@@ -53,7 +53,7 @@ module _ (area : ℕ) (checked : Bool) (image : List ℕ) where
       let c = image-in-order m left ts d in (c .0, no-closing m (c .0) ts before now r n vs (c .1) p g, c .2)
 
   -- the image is shut only once nothing is left
-  shut-at-the-end : (m : MaskRomOperation) (left : List ℕ) (ts : List Transfer) → Reached area checked image m left ts → closed (m .steps) ≡ true → left ≡ []
+  shut-at-the-end : (m : MaskRomOperation) (left : List ℕ) (ts : List Transfer) → Reached area image m left ts → closed (m .steps) ≡ true → left ≡ []
   unfolding closed
   shut-at-the-end _ _ _ (starts m e) c = true-not-false (sym c ∙ ap (λ (x : MaskRomOperation). closed (x .steps)) e)
   shut-at-the-end _ _ _ (hands m left ts part rest before now r a d e p g) c =
@@ -66,73 +66,73 @@ module _ (area : ℕ) (checked : Bool) (image : List ℕ) where
       shut-at-the-end m left ts d
       (sym (ap (λ (x : MaskRomOperation). closed (x .steps)) (refused-stays (stepTold (r .step)) (r .next) m before now (closeStep m (length before)) n vs p g)) ∙ c)
 
-  pub open-while-left : (m : MaskRomOperation) (left : List ℕ) (ts : List Transfer) → Reached area checked image m left ts → 0 < length left → closed (m .steps) ≡ false
+  pub open-while-left : (m : MaskRomOperation) (left : List ℕ) (ts : List Transfer) → Reached area image m left ts → 0 < length left → closed (m .steps) ≡ false
   open-while-left m left ts d h =
       on-test (closed (m .steps))
       (λ c. absurd (let z : length left ≡ 0 = ap length (shut-at-the-end m left ts d c) in omega arith))
       (λ c. c)
 
   -- the finish is answered only where nothing is left
-  pub finish-means-all : (m : MaskRomOperation) (left : List ℕ) (ts : List Transfer) (before now : List ℕ) (r : CloseStepped) → Reached area checked image m left ts
+  pub finish-means-all : (m : MaskRomOperation) (left : List ℕ) (ts : List Transfer) (before now : List ℕ) (r : CloseStepped) → Reached area image m left ts
       → CloseMeets r m before now → stepTold (r .step) ≡ given finish → left ≡ []
   unfolding closed
   finish-means-all m left ts before now r d p g = shut-at-the-end m left ts d (ap closed (finish-done m before now r p g))
 
   -- what was taken is then the image
-  all-taken : (m : MaskRomOperation) (left : List ℕ) (ts : List Transfer) (before now : List ℕ) (r : CloseStepped) → (d : Reached area checked image m left ts)
+  all-taken : (m : MaskRomOperation) (left : List ℕ) (ts : List Transfer) (before now : List ℕ) (r : CloseStepped) → (d : Reached area image m left ts)
       → CloseMeets r m before now → stepTold (r .step) ≡ given finish → image-in-order m left ts d .0 ≡ image
   all-taken m left ts before now r d p g =
       let c = image-in-order m left ts d in
       sym (append-nil (c .0)) ∙ ap (λ (l : List ℕ). c .0 ++ l) (sym (finish-means-all m left ts before now r d p g)) ∙ c .2
 
   -- DEMAND 3, for an image: the transfers seen are those of the upload's bytes ..
-  pub any-caller : (ts : List Transfer) → Finishes area checked image ts → ts ≡ transfersOf area checked image
+  pub any-caller : (ts : List Transfer) → Finishes area image ts → ts ≡ transfersOf area image
   any-caller _ (finishes m left ts before now r d p g) =
       let c = image-in-order m left ts d in
-      whatever-was-taken area checked (c .0) ts (uploaded m (c .0) ts before now r (c .1) p g) ∙ ap (transfersOf area checked) (all-taken m left ts before now r d p g)
+      whatever-was-taken area (c .0) ts (uploaded m (c .0) ts before now r (c .1) p g) ∙ ap (transfersOf area) (all-taken m left ts before now r d p g)
 
   -- with an image that is too long nobody comes to the finish
-  pub finished-fits : (ts : List Transfer) → Finishes area checked image ts → length image ≤ longest
+  pub finished-fits : (ts : List Transfer) → Finishes area image ts → length image ≤ longest
   finished-fits _ (finishes m left ts before now r d p g) =
       let c = image-in-order m left ts d in
-      subst (λ (l : List ℕ). length l ≤ longest) (all-taken m left ts before now r d p g) (counts-the-taken area checked m (c .0) ts (c .1) .1)
+      subst (λ (l : List ℕ). length l ≤ longest) (all-taken m left ts before now r d p g) (counts-the-taken area m (c .0) ts (c .1) .1)
 
   -- .. and so those of the whole upload
-  pub as-the-whole-upload : (ts : List Transfer) (out : List ℕ) → Finishes area checked image ts → blockSize ≤ length out
-      → driveWhole (total (length image) / blockSize + 2) area checked image out ≡ ended ts
-  as-the-whole-upload ts out f h = whole-image area checked image out (finished-fits ts f) h ∙ ap ended (sym (any-caller ts f))
+  pub as-the-whole-upload : (ts : List Transfer) (out : List ℕ) → Finishes area image ts → blockSize ≤ length out
+      → driveWhole (total (length image) / blockSize + 2) area image out ≡ ended ts
+  as-the-whole-upload ts out f h = whole-image area image out (finished-fits ts f) h ∙ ap ended (sym (any-caller ts f))
 
-  seen-by : (m : MaskRomOperation) (taken left : List ℕ) (ts : List Transfer) → Sent area checked m taken ts → taken ++ left ≡ image
-      → (closed (m .steps) ≡ true → left ≡ []) → (later : List Transfer) × (ts ++ later ≡ transfersOf area checked image)
-  seen-by m taken left ts (unshut m₁ taken₁ ts₁ o f) t e = (due m₁ left, f left ∙ ap (transfersOf area checked) t)
+  seen-by : (m : MaskRomOperation) (taken left : List ℕ) (ts : List Transfer) → Sent area m taken ts → taken ++ left ≡ image
+      → (closed (m .steps) ≡ true → left ≡ []) → (later : List Transfer) × (ts ++ later ≡ transfersOf area image)
+  seen-by m taken left ts (unshut m₁ taken₁ ts₁ o f) t e = (due m₁ left, f left ∙ ap (transfersOf area) t)
   seen-by m taken left ts (shut m₁ taken₁ ts₁ us c s f) t e =
-      (us, f ∙ ap (transfersOf area checked) (sym (append-nil taken₁) ∙ ap (λ (l : List ℕ). taken₁ ++ l) (sym (e c)) ∙ t))
+      (us, f ∙ ap (transfersOf area) (sym (append-nil taken₁) ∙ ap (λ (l : List ℕ). taken₁ ++ l) (sym (e c)) ∙ t))
 
   -- at any time before, what he has seen is what that list begins with
-  pub seen-so-far : (m : MaskRomOperation) (left : List ℕ) (ts : List Transfer) → Reached area checked image m left ts
-      → (later : List Transfer) × (ts ++ later ≡ transfersOf area checked image)
+  pub seen-so-far : (m : MaskRomOperation) (left : List ℕ) (ts : List Transfer) → Reached area image m left ts
+      → (later : List Transfer) × (ts ++ later ≡ transfersOf area image)
   seen-so-far m left ts d =
       let c = image-in-order m left ts d in
-      seen-by m (c .0) left ts (sent-so area checked m (c .0) ts (c .1)) (c .2) (shut-at-the-end m left ts d)
+      seen-by m (c .0) left ts (sent-so area m (c .0) ts (c .1)) (c .2) (shut-at-the-end m left ts d)
 
   -- none of his calls is refused that has an output of 4,096 bytes, for an image of at most 4,294,967,295: closing steps never (`closing-not-refused`),
   -- and no slice that begins what is left, before the image is shut
   pub slice-not-refused : (m : MaskRomOperation) (left : List ℕ) (ts : List Transfer) (part rest before now : List ℕ) (r : PartStepped)
-      → Reached area checked image m left ts → length image ≤ longest → closed (m .steps) ≡ false → left ≡ part ++ rest → PartMeets r m part before now
+      → Reached area image m left ts → length image ≤ longest → closed (m .steps) ≡ false → left ≡ part ++ rest → PartMeets r m part before now
       → blockSize ≤ length before → (a : Handed) × (partTold (r .step) ≡ given a)
   slice-not-refused m left ts part rest before now r d l c e p h =
       let t = image-in-order m left ts d in
       let n = length-append (t .0) left in
       let k = ap length (t .2) in
       let w = ap length e ∙ length-append part rest in
-      caller.part-not-refused area checked m (t .0) ts part before now r (t .1) c (fits (length (t .0)) (length left) (length (t .0 ++ left)) (length image) (length part) (length rest) n k w l) p h
+      caller.part-not-refused area m (t .0) ts part before now r (t .1) c (fits (length (t .0)) (length left) (length (t .0 ++ left)) (length image) (length part) (length rest) n k w l) p h
 
   -- and those that take a byte at least are no more than the image has bytes
-  pub image-calls-at-most : (m : MaskRomOperation) (left : List ℕ) (ts : List Transfer) (d : Reached area checked image m left ts)
+  pub image-calls-at-most : (m : MaskRomOperation) (left : List ℕ) (ts : List Transfer) (d : Reached area image m left ts)
       → let c = image-in-order m left ts d in takingCalls m (c .0) ts (c .1) + length left ≤ length image
   image-calls-at-most m left ts d =
       let c = image-in-order m left ts d in
       let n = length-append (c .0) left in
       let k = ap length (c .2) in
-      let t = caller.taking-calls-at-most area checked m (c .0) ts (c .1) in
+      let t = caller.taking-calls-at-most area m (c .0) ts (c .1) in
       omega arith

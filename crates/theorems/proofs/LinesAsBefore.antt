@@ -145,10 +145,10 @@ module _ (h : Head) (then : AsThen (h .device)) where
   unfolding operate
   operate-keeps op bytes = run-leaves-then (usbState op (h .device) (h .flash) bytes) (length (h .store)) wholeBudget then
 
-  load-keeps : (area : ℕ) (checked : Bool) (image : List ℕ) → AsThen (load area checked image h .leaves .device)
+  load-keeps : (area : ℕ) (image : List ℕ) → AsThen (load area image h .leaves .device)
   unfolding loadOf
-  load-keeps area checked image =
-      let keeps = upload-keeps area checked image (length (h .flash)) (h .device) (h .store) (uploadBudget (length image)) in
+  load-keeps area image =
+      let keeps = upload-keeps area image (length (h .flash)) (h .device) (h .store) (uploadBudget (length image)) in
       record {
         own = ap (λ (d : MockState). d .variety) (keeps .same) ∙ then .own;
         quiet = subst Quiet (sym (ap (λ (d : MockState). d .«current_command») (keeps .same))) (then .quiet);

@@ -38,35 +38,35 @@ sent-first t (ended ts) us e = (ts, refl, sym (same-ended (t ∷ ts) us e))
 sent-first t (stopped n) us e = stopped-not n us e
 sent-first t unending us e = unending-not us e
 
-module _ (area : ℕ) (checked : Bool) (image : List ℕ) where
+module _ (area : ℕ) (image : List ℕ) where
   -- one closing step, by what it asks for, given what comes of those after it
-  module _ (k : ℕ) (more : (m : MaskRomOperation) (out : List ℕ) (ts us : List Transfer) → Reached area checked image m [] ts → stepThrough closeStep k m out ≡ ended us
-      → Finishes area checked image (ts ++ us))
-      (m : MaskRomOperation) (out : List ℕ) (ts us : List Transfer) (d : Reached area checked image m [] ts) where
+  module _ (k : ℕ) (more : (m : MaskRomOperation) (out : List ℕ) (ts us : List Transfer) → Reached area image m [] ts → stepThrough closeStep k m out ≡ ended us
+      → Finishes area image (ts ++ us))
+      (m : MaskRomOperation) (out : List ℕ) (ts us : List Transfer) (d : Reached area image m [] ts) where
     by-asked : (a : Asks) (bs : List ℕ) (next : MaskRomOperation) → closeStep m (length out) ≡ given (does a bs next)
-        → onStep (given a) (front bs out) (stepThrough closeStep k next (front bs out)) ≡ ended us → Finishes area checked image (ts ++ us)
+        → onStep (given a) (front bs out) (stepThrough closeStep k next (front bs out)) ≡ ended us → Finishes area image (ts ++ us)
     unfolding onStep said sent after stepTold askedSeen
     by-asked (writes c) bs next e f =
         let now = front bs out in
         let r = closedWith (upload.WriteControl c) next in
         let meets : CloseMeets r m out now = record { tells = sym (ap said e); next = sym (ap (after m) e); leaves = sym (ap (λ (t : Told (Does Asks MaskRomOperation)). front (sent t) out) e) } in
         let first = sent-first (seen c now) (stepThrough closeStep k next now) us f in
-        subst (Finishes area checked image) (append-assoc ts (seen c now ∷ []) (first .0) ∙ ap (λ (x : List Transfer). ts ++ x) (sym (first .2)))
+        subst (Finishes area image) (append-assoc ts (seen c now ∷ []) (first .0) ∙ ap (λ (x : List Transfer). ts ++ x) (sym (first .2)))
         (more next now (ts ++ (seen c now ∷ [])) (first .0) (closes m [] ts out now r (writes c) d refl meets refl) (first .1))
     by-asked finish bs next e f =
         let now = front bs out in
         let r = closedWith upload.Finished next in
         let meets : CloseMeets r m out now = record { tells = sym (ap said e); next = sym (ap (after m) e); leaves = sym (ap (λ (t : Told (Does Asks MaskRomOperation)). front (sent t) out) e) } in
-        subst (Finishes area checked image) (sym (append-nil ts) ∙ ap (λ (x : List Transfer). ts ++ x) (same-ended [] us f)) (finishes m [] ts out now r d meets refl)
+        subst (Finishes area image) (sym (append-nil ts) ∙ ap (λ (x : List Transfer). ts ++ x) (same-ended [] us f)) (finishes m [] ts out now r d meets refl)
 
     by-close : (t : Told (Does Asks MaskRomOperation)) → closeStep m (length out) ≡ t
-        → onStep (said t) (front (sent t) out) (stepThrough closeStep k (after m t) (front (sent t) out)) ≡ ended us → Finishes area checked image (ts ++ us)
+        → onStep (said t) (front (sent t) out) (stepThrough closeStep k (after m t) (front (sent t) out)) ≡ ended us → Finishes area image (ts ++ us)
     unfolding onStep said sent after
     by-close (given x) e f = by-asked (x .says) (x .sends) (x .becomes) e f
     by-close (refused n vs) e f = stopped-not n us f
 
-  closings-call : (k : ℕ) (m : MaskRomOperation) (out : List ℕ) (ts us : List Transfer) → Reached area checked image m [] ts → stepThrough closeStep k m out ≡ ended us
-      → Finishes area checked image (ts ++ us)
+  closings-call : (k : ℕ) (m : MaskRomOperation) (out : List ℕ) (ts us : List Transfer) → Reached area image m [] ts → stepThrough closeStep k m out ≡ ended us
+      → Finishes area image (ts ++ us)
   unfolding stepThrough
   closings-call zero m out ts us d e = unending-not us e
   closings-call (suc k) m out ts us d e = by-close k (λ m′ out′ ts′ us′. closings-call k m′ out′ ts′ us′) m out ts us d (closeStep m (length out)) refl e
@@ -74,51 +74,51 @@ module _ (area : ℕ) (checked : Bool) (image : List ℕ) where
   -- what comes after some parts, `qs` being left then
   abbrev GoesOn : List ℕ → (MaskRomOperation → List ℕ → Drive) → Type 0
   GoesOn qs go =
-      (m : MaskRomOperation) (out : List ℕ) (ts us : List Transfer) → Reached area checked image m qs ts → go m out ≡ ended us → Finishes area checked image (ts ++ us)
+      (m : MaskRomOperation) (out : List ℕ) (ts us : List Transfer) → Reached area image m qs ts → go m out ≡ ended us → Finishes area image (ts ++ us)
 
   module _ (qs : List ℕ) (go : MaskRomOperation → List ℕ → Drive) (going : GoesOn qs go) where
     -- one call, by what it is told, given what comes of those after it
-    module _ (k : ℕ) (more : (m : MaskRomOperation) (xs out : List ℕ) (ts us : List Transfer) → Reached area checked image m (xs ++ qs) ts → hand k m xs out go ≡ ended us
-        → Finishes area checked image (ts ++ us)) where
-      again : (m : MaskRomOperation) (zs out : List ℕ) (ts us : List Transfer) → Reached area checked image m (zs ++ qs) ts
-          → orAgain zs (go m out) (hand k m zs out go) ≡ ended us → Finishes area checked image (ts ++ us)
+    module _ (k : ℕ) (more : (m : MaskRomOperation) (xs out : List ℕ) (ts us : List Transfer) → Reached area image m (xs ++ qs) ts → hand k m xs out go ≡ ended us
+        → Finishes area image (ts ++ us)) where
+      again : (m : MaskRomOperation) (zs out : List ℕ) (ts us : List Transfer) → Reached area image m (zs ++ qs) ts
+          → orAgain zs (go m out) (hand k m zs out go) ≡ ended us → Finishes area image (ts ++ us)
       unfolding orAgain
       again m [] out ts us d e = going m out ts us d e
       again m (z ∷ zs) out ts us d e = more m (z ∷ zs) out ts us d e
 
-      module _ (m : MaskRomOperation) (xs out : List ℕ) (ts us : List Transfer) (d : Reached area checked image m (xs ++ qs) ts) where
+      module _ (m : MaskRomOperation) (xs out : List ℕ) (ts us : List Transfer) (d : Reached area image m (xs ++ qs) ts) where
         arrived : (s : PartStep) (a : Handed) (now : List ℕ) (next : MaskRomOperation) → partTold s ≡ given a → PartMeets (parted s next) m xs out now
-            → Reached area checked image next (drop (takenBy a) xs ++ qs) (ts ++ handedSeen a now)
+            → Reached area image next (drop (takenBy a) xs ++ qs) (ts ++ handedSeen a now)
         arrived s a now next g meets =
             let few : takenBy a ≤ length xs = omega (arith, taken-is m xs out now (parted s next) meets a g) in
-            subst (λ (l : List ℕ). Reached area checked image next l (ts ++ handedSeen a now)) (drop-append-le (takenBy a) xs qs few)
+            subst (λ (l : List ℕ). Reached area image next l (ts ++ handedSeen a now)) (drop-append-le (takenBy a) xs qs few)
             (hands m (xs ++ qs) ts xs qs out now (parted s next) a d refl meets g)
 
         by-handed : (a : Handed) (bs : List ℕ) (next : MaskRomOperation) → partStep m xs (length out) ≡ given (does a bs next)
             → onPart (given a) xs (front bs out) (λ rest. orAgain rest (go next (front bs out)) (hand k next rest (front bs out) go)) ≡ ended us
-            → Finishes area checked image (ts ++ us)
+            → Finishes area image (ts ++ us)
         unfolding onPart said sent after partTold handedSeen takenBy
         by-handed (took n) bs next e f =
             let now = front bs out in
             let meets : PartMeets (parted (part.Taken n) next) m xs out now = record { tells = sym (ap said e); next = sym (ap (after m) e); leaves = sym (ap (λ (t : Told (Does Handed MaskRomOperation)). front (sent t) out) e) } in
             again next (drop n xs) now ts us
-            (subst (λ (l : List Transfer). Reached area checked image next (drop n xs ++ qs) l) (append-nil ts) (arrived (part.Taken n) (took n) now next refl meets)) f
+            (subst (λ (l : List Transfer). Reached area image next (drop n xs ++ qs) l) (append-nil ts) (arrived (part.Taken n) (took n) now next refl meets)) f
         by-handed (filled n c) bs next e f =
             let now = front bs out in
             let meets : PartMeets (parted (part.WriteControl n c) next) m xs out now = record { tells = sym (ap said e); next = sym (ap (after m) e); leaves = sym (ap (λ (t : Told (Does Handed MaskRomOperation)). front (sent t) out) e) } in
             let first = sent-first (seen c now) (orAgain (drop n xs) (go next now) (hand k next (drop n xs) now go)) us f in
-            subst (Finishes area checked image) (append-assoc ts (seen c now ∷ []) (first .0) ∙ ap (λ (x : List Transfer). ts ++ x) (sym (first .2)))
+            subst (Finishes area image) (append-assoc ts (seen c now ∷ []) (first .0) ∙ ap (λ (x : List Transfer). ts ++ x) (sym (first .2)))
             (again next (drop n xs) now (ts ++ (seen c now ∷ [])) (first .0) (arrived (part.WriteControl n c) (filled n c) now next refl meets) (first .1))
 
         by-part : (t : Told (Does Handed MaskRomOperation)) → partStep m xs (length out) ≡ t
             → onPart (said t) xs (front (sent t) out) (λ rest. orAgain rest (go (after m t) (front (sent t) out)) (hand k (after m t) rest (front (sent t) out) go)) ≡ ended us
-            → Finishes area checked image (ts ++ us)
+            → Finishes area image (ts ++ us)
         unfolding onPart said sent after
         by-part (given x) e f = by-handed (x .says) (x .sends) (x .becomes) e f
         by-part (refused n vs) e f = stopped-not n us f
 
-    part-calls : (k : ℕ) (m : MaskRomOperation) (xs out : List ℕ) (ts us : List Transfer) → Reached area checked image m (xs ++ qs) ts → hand k m xs out go ≡ ended us
-        → Finishes area checked image (ts ++ us)
+    part-calls : (k : ℕ) (m : MaskRomOperation) (xs out : List ℕ) (ts us : List Transfer) → Reached area image m (xs ++ qs) ts → hand k m xs out go ≡ ended us
+        → Finishes area image (ts ++ us)
     unfolding hand
     part-calls zero m xs out ts us d e = unending-not us e
     part-calls (suc k) m xs out ts us d e = by-part k (λ m′ xs′ out′ ts′ us′. part-calls k m′ xs′ out′ ts′ us′) m xs out ts us d (partStep m xs (length out)) refl e
@@ -130,18 +130,18 @@ module _ (area : ℕ) (checked : Bool) (image : List ℕ) where
       part-calls (flatten parts) (λ (m′ : MaskRomOperation) (now : List ℕ). handAll parts m′ now (λ m″ then. stepThrough closeStep 3 m″ then)) (parts-call parts) (length xs + 1) m xs out ts us d e
 
 -- every driving that ends, with parts of any image and any output
-pub driver-is-a-caller : (area : ℕ) (checked : Bool) (parts : List (List ℕ)) (out : List ℕ) (ts : List Transfer) → driveParts area checked parts out ≡ ended ts
-    → Finishes area checked (flatten parts) ts
+pub driver-is-a-caller : (area : ℕ) (parts : List (List ℕ)) (out : List ℕ) (ts : List Transfer) → driveParts area parts out ≡ ended ts
+    → Finishes area (flatten parts) ts
 unfolding driveParts
-driver-is-a-caller area checked parts out ts e =
-    parts-call area checked (flatten parts) parts (fresh area checked) out [] ts (starts (fresh area checked) refl) e
+driver-is-a-caller area parts out ts e =
+    parts-call area (flatten parts) parts (fresh area) out [] ts (starts (fresh area) refl) e
 
 -- so there is a caller who is answered the finish, for every image
-pub someone-finishes : (area : ℕ) (checked : Bool) (image : List ℕ) → length image ≤ longest → Finishes area checked image (transfersOf area checked image)
+pub someone-finishes : (area : ℕ) (image : List ℕ) → length image ≤ longest → Finishes area image (transfersOf area image)
 unfolding flatten
-someone-finishes area checked image l =
+someone-finishes area image l =
     let one : flatten (image ∷ []) ≡ image = append-nil image in
     let out = replicate {A = ℕ} 4096 0 in
     let long : 4096 ≤ length out = omega (arith, length-replicate {A = ℕ} 4096 0) in
-    subst (λ (x : List ℕ). Finishes area checked x (transfersOf area checked image)) one
-    (driver-is-a-caller area checked (image ∷ []) out (transfersOf area checked image) (any-cut area checked image (image ∷ []) out one l long))
+    subst (λ (x : List ℕ). Finishes area x (transfersOf area image)) one
+    (driver-is-a-caller area (image ∷ []) out (transfersOf area image) (any-cut area image (image ∷ []) out one l long))

@@ -58,20 +58,20 @@ record Shuts (before : ℕ) (s : MaskRomSteps) : Type 0 where
   shut : closed s ≡ true
   nearer : before-finish s ≤ before - 1
 
-writing-shuts : (checked : Bool) (crc : ℕ) (w : List ℕ) → Dec (length w < 4094) → Dec (length w ≡ 4094) → length w < 4096 → Shuts 2 (writing checked crc w .steps)
+writing-shuts : (crc : ℕ) (w : List ℕ) → Dec (length w < 4094) → Dec (length w ≡ 4094) → length w < 4096 → Shuts 2 (writing crc w .steps)
 unfolding closed before-finish
-writing-shuts checked crc w (yes h) d n = rw (writing-last checked crc w h) (record { shut = refl; nearer = omega arith })
-writing-shuts checked crc w (no h) (yes e) n = rw (writing-dummy checked crc w e) (record { shut = refl; nearer = omega arith })
-writing-shuts checked crc w (no h) (no e) n =
+writing-shuts crc w (yes h) d n = rw (writing-last crc w h) (record { shut = refl; nearer = omega arith })
+writing-shuts crc w (no h) (yes e) n = rw (writing-dummy crc w e) (record { shut = refl; nearer = omega arith })
+writing-shuts crc w (no h) (no e) n =
     let p : length w ≡ 4095 = omega arith in
-    rw (writing-pad checked crc w p) (record { shut = refl; nearer = omega arith })
+    rw (writing-pad crc w p) (record { shut = refl; nearer = omega arith })
 
-moves-shut : (s : MaskRomSteps) (checked : Bool) (crc : ℕ) (w : List ℕ) → length w < 4096 → Shuts (before-finish s) (movesAt s checked crc w .steps)
+moves-shut : (s : MaskRomSteps) (crc : ℕ) (w : List ℕ) → length w < 4096 → Shuts (before-finish s) (movesAt s crc w .steps)
 unfolding movesAt closed before-finish
-moves-shut Writing checked crc w h = writing-shuts checked crc w (decLt (length w) 4094) (ℕ-discrete (length w) 4094) h
-moves-shut Check checked crc w h = record { shut = refl; nearer = omega arith }
-moves-shut Dummy checked crc w h = record { shut = refl; nearer = omega arith }
-moves-shut Done checked crc w h = record { shut = refl; nearer = omega arith }
+moves-shut Writing crc w h = writing-shuts crc w (decLt (length w) 4094) (ℕ-discrete (length w) 4094) h
+moves-shut Check crc w h = record { shut = refl; nearer = omega arith }
+moves-shut Dummy crc w h = record { shut = refl; nearer = omega arith }
+moves-shut Done crc w h = record { shut = refl; nearer = omega arith }
 
 at-finish : (s : MaskRomSteps) → before-finish s ≤ 0 → s ≡ Done
 unfolding before-finish
@@ -92,7 +92,7 @@ same-given a b e = cc
 
 module _ (m : MaskRomOperation) (before now : List ℕ) (r : CloseStepped) (meets : CloseMeets r m before now) where
   abbrev to : Moves
-  to = movesAt (m .steps) (m .checked) (m .crc) (held m)
+  to = movesAt (m .steps) (m .crc) (held m)
 
   -- with an output that is long enough a closing step is not refused, and else it is
   pub close-given : 4096 ≤ length before → stepTold (r .step) ≡ given (asks (m .steps) (m .area) (length (to .bytes)))
@@ -118,7 +118,7 @@ module _ (m : MaskRomOperation) (before now : List ℕ) (r : CloseStepped) (meet
         let short : length (held m) < 4096 = simp length-take (omega arith) in
         subst (λ (x : MaskRomOperation). Shuts (before-finish (m .steps)) (x .steps))
         (sym (meets .next ∙ ap (after m) (close-acts m (length before) close-long)))
-        (moves-shut (m .steps) (m .checked) (m .crc) (held m) short)
+        (moves-shut (m .steps) (m .crc) (held m) short)
 
     pub close-keeps-taken : r .next .taken ≡ m .taken
     unfolding after

@@ -48,10 +48,10 @@ step-number upload.Finished n vs e = absurd (let z : _≡_ {A = ℕ} 0 1 = cc in
 step-number upload.OutputTooShort n vs e = let z : 20 ≡ n = cc in omega arith
 step-number upload.ImageDiffers n vs e = let z : 27 ≡ n = cc in omega arith
 
-module _ (area : ℕ) (checked : Bool) (image : List ℕ) (size : ℕ) where
+module _ (area : ℕ) (image : List ℕ) (size : ℕ) where
   -- where a run that began with `ts` seen, and shows `shown`, stands in the end: told 0 only once nothing is left
   record Stands (ts shown : List Transfer) (r : Ran Unit Handing) : Type 0 where
-    reached : Reached area checked image (r .state .operation) (r .state .left) (ts ++ shown)
+    reached : Reached area image (r .state .operation) (r .state .left) (ts ++ shown)
     all-handed : number (endTold (r .end)) ≡ 0 → r .state .left ≡ []
 
   abbrev shown-by : ℕ → Handing → List Transfer
@@ -62,8 +62,8 @@ module _ (area : ℕ) (checked : Bool) (image : List ℕ) (size : ℕ) where
 
   -- one turn, given what comes of those after it
   module _ (budget : ℕ)
-      (more : (s : Handing) (ts : List Transfer) → Reached area checked image (s .operation) (s .left) ts → Stands ts (shown-by budget s) (run-by budget s))
-      (m : MaskRomOperation) (left out : List ℕ) (ts : List Transfer) (d : Reached area checked image m left ts) where
+      (more : (s : Handing) (ts : List Transfer) → Reached area image (s .operation) (s .left) ts → Stands ts (shown-by budget s) (run-by budget s))
+      (m : MaskRomOperation) (left out : List ℕ) (ts : List Transfer) (d : Reached area image m left ts) where
     by-handed : (a : Handed) (bs : List ℕ) (next : MaskRomOperation) → partStep m (take size left) (length out) ≡ given (does a bs next)
         → Stands ts (partShows (given a) (front bs out) ++ onTurn (onPart (given a) next left (front bs out)) (shown-by budget))
         (follow (onPart (given a) next left (front bs out)) (run-by budget))
@@ -72,7 +72,7 @@ module _ (area : ℕ) (checked : Bool) (image : List ℕ) (size : ℕ) where
         let now = front bs out in
         let meets : PartMeets (parted (part.Taken n) next) m (take size left) out now = record { tells = sym (ap said e); next = sym (ap (after m) e); leaves = sym (ap (λ (t : Told (Does Handed MaskRomOperation)). front (sent t) out) e) } in
         let here = hands m left ts (take size left) (drop size left) out now (parted (part.Taken n) next) (took n) d (sym (take-append-drop size left)) meets refl in
-        let s = more (handing next (drop n left) now) ts (subst (λ (l : List Transfer). Reached area checked image next (drop n left) l) (append-nil ts) here) in
+        let s = more (handing next (drop n left) now) ts (subst (λ (l : List Transfer). Reached area image next (drop n left) l) (append-nil ts) here) in
         record { reached = s .reached; all-handed = s .all-handed }
     by-handed (filled n c) bs next e =
         let now = front bs out in
@@ -82,7 +82,7 @@ module _ (area : ℕ) (checked : Bool) (image : List ℕ) (size : ℕ) where
         let s = more s′ (ts ++ (seen c now ∷ [])) here in
         record {
           reached =
-              subst (Reached area checked image (run-by budget s′ .state .operation) (run-by budget s′ .state .left))
+              subst (Reached area image (run-by budget s′ .state .operation) (run-by budget s′ .state .left))
               (append-assoc ts (seen c now ∷ []) (shown-by budget s′)) (s .reached);
           all-handed = s .all-handed;
         }
@@ -95,30 +95,30 @@ module _ (area : ℕ) (checked : Bool) (image : List ℕ) (size : ℕ) where
     by-part (refused n vs) e =
         let told = part-told m (take size left) (length out) in
         let some : 0 < n = part-number (told .0) n vs (told .1 ∙ ap said e) in
-        record { reached = subst (Reached area checked image m left) (sym (append-nil ts)) d; all-handed = λ z. absurd (omega arith) }
+        record { reached = subst (Reached area image m left) (sym (append-nil ts)) d; all-handed = λ z. absurd (omega arith) }
 
     one-turn : Stands ts (shown-by (suc budget) (handing m left out)) (run-by (suc budget) (handing m left out))
     unfolding runs runShows partTurn partTurnShows follow onTurn
     one-turn =
         on-test (eqb (length left) 0)
-        (λ e. rw e (record { reached = subst (Reached area checked image m left) (sym (append-nil ts)) d; all-handed = λ z. nothing-long left (eqb-true (length left) 0 e) }))
+        (λ e. rw e (record { reached = subst (Reached area image m left) (sym (append-nil ts)) d; all-handed = λ z. nothing-long left (eqb-true (length left) 0 e) }))
         (λ e. rw e (by-part (partStep m (take size left) (length out)) refl))
 
-  turns-call : (budget : ℕ) (s : Handing) (ts : List Transfer) → Reached area checked image (s .operation) (s .left) ts → Stands ts (shown-by budget s) (run-by budget s)
+  turns-call : (budget : ℕ) (s : Handing) (ts : List Transfer) → Reached area image (s .operation) (s .left) ts → Stands ts (shown-by budget s) (run-by budget s)
   unfolding runs runShows number endTold
   turns-call zero s ts d =
-      record { reached = subst (Reached area checked image (s .operation) (s .left)) (sym (append-nil ts)) d; all-handed = λ z. absurd (omega arith) }
+      record { reached = subst (Reached area image (s .operation) (s .left)) (sym (append-nil ts)) d; all-handed = λ z. absurd (omega arith) }
   turns-call (suc budget) s ts d = one-turn budget (λ s′ ts′. turns-call budget s′ ts′) (s .operation) (s .left) (s .out) ts d
 
-module _ (area : ℕ) (checked : Bool) (image : List ℕ) where
+module _ (area : ℕ) (image : List ℕ) where
   -- one closing step, by what it asks for, given what comes of those after it
-  module _ (k : ℕ) (more : (m : MaskRomOperation) (out : List ℕ) (ts : List Transfer) → Reached area checked image m [] ts → stepDrive closeStep k m out .number ≡ 0
-      → Finishes area checked image (ts ++ stepTrace closeStep k m out))
-      (m : MaskRomOperation) (out : List ℕ) (ts : List Transfer) (d : Reached area checked image m [] ts) where
+  module _ (k : ℕ) (more : (m : MaskRomOperation) (out : List ℕ) (ts : List Transfer) → Reached area image m [] ts → stepDrive closeStep k m out .number ≡ 0
+      → Finishes area image (ts ++ stepTrace closeStep k m out))
+      (m : MaskRomOperation) (out : List ℕ) (ts : List Transfer) (d : Reached area image m [] ts) where
     abbrev Ends : Told Asks → MaskRomOperation → List ℕ → Type 0
     Ends told next now =
         number (endTold (follow (onward told (stepping next now)) (λ s. runs (stepTurn closeStep) k s) .end)) ≡ 0
-        → Finishes area checked image
+        → Finishes area image
         (ts ++ (stepShows told now ++ onTurn (onward told (stepping next now)) (λ s. runShows (stepTurn closeStep) (stepTurnShows closeStep) k s)))
 
     by-asked : (a : Asks) (bs : List ℕ) (next : MaskRomOperation) → closeStep m (length out) ≡ given (does a bs next) → Ends (given a) next (front bs out)
@@ -127,13 +127,13 @@ module _ (area : ℕ) (checked : Bool) (image : List ℕ) where
         let now = front bs out in
         let r = closedWith (upload.WriteControl c) next in
         let meets : CloseMeets r m out now = record { tells = sym (ap said e); next = sym (ap (after m) e); leaves = sym (ap (λ (t : Told (Does Asks MaskRomOperation)). front (sent t) out) e) } in
-        subst (Finishes area checked image) (append-assoc ts (seen c now ∷ []) (stepTrace closeStep k next now))
+        subst (Finishes area image) (append-assoc ts (seen c now ∷ []) (stepTrace closeStep k next now))
         (more next now (ts ++ (seen c now ∷ [])) (closes m [] ts out now r (writes c) d refl meets refl) f)
     by-asked finish bs next e f =
         let now = front bs out in
         let r = closedWith upload.Finished next in
         let meets : CloseMeets r m out now = record { tells = sym (ap said e); next = sym (ap (after m) e); leaves = sym (ap (λ (t : Told (Does Asks MaskRomOperation)). front (sent t) out) e) } in
-        subst (Finishes area checked image) (sym (append-nil ts)) (finishes m [] ts out now r d meets refl)
+        subst (Finishes area image) (sym (append-nil ts)) (finishes m [] ts out now r d meets refl)
 
     by-close : (t : Told (Does Asks MaskRomOperation)) → closeStep m (length out) ≡ t → Ends (said t) (after m t) (front (sent t) out)
     unfolding onward follow said sent after number endTold
@@ -143,27 +143,27 @@ module _ (area : ℕ) (checked : Bool) (image : List ℕ) where
         let some : 0 < n = step-number (told .0) n vs (told .1 ∙ ap said e) in
         absurd (omega arith)
 
-  closings-call : (k : ℕ) (m : MaskRomOperation) (out : List ℕ) (ts : List Transfer) → Reached area checked image m [] ts → stepDrive closeStep k m out .number ≡ 0
-      → Finishes area checked image (ts ++ stepTrace closeStep k m out)
+  closings-call : (k : ℕ) (m : MaskRomOperation) (out : List ℕ) (ts : List Transfer) → Reached area image m [] ts → stepDrive closeStep k m out .number ≡ 0
+      → Finishes area image (ts ++ stepTrace closeStep k m out)
   unfolding stepDrive stepTrace runs runShows stepTurn stepTurnShows number endTold
   closings-call zero m out ts d e = absurd (omega arith)
   closings-call (suc k) m out ts d e = by-close k (λ m′ out′ ts′. closings-call k m′ out′ ts′) m out ts d (closeStep m (length out)) refl e
 
   -- the rest of the drive, by the number that the handing over ended with
-  by-number : (n : ℕ) (m : MaskRomOperation) (left out : List ℕ) (ts : List Transfer) → Reached area checked image m left ts → (n ≡ 0 → left ≡ [])
-      → onHanded n m out .number ≡ 0 → Finishes area checked image (ts ++ onHandedTrace n m out)
+  by-number : (n : ℕ) (m : MaskRomOperation) (left out : List ℕ) (ts : List Transfer) → Reached area image m left ts → (n ≡ 0 → left ≡ [])
+      → onHanded n m out .number ≡ 0 → Finishes area image (ts ++ onHandedTrace n m out)
   unfolding onHanded onHandedTrace
   by-number zero m left out ts d all e =
-      closings-call mostClosing m out ts (subst (λ (l : List ℕ). Reached area checked image m l ts) (all refl) d) e
+      closings-call mostClosing m out ts (subst (λ (l : List ℕ). Reached area image m l ts) (all refl) d) e
   by-number (suc n) m left out ts d all e = absurd (omega arith)
 
   -- every drive that answers 0
-  pub parts-is-a-caller : (size : ℕ) (out : List ℕ) (budget : ℕ) → partDrive area checked size image out budget .number ≡ 0
-      → Finishes area checked image (partTrace area checked size image out budget)
+  pub parts-is-a-caller : (size : ℕ) (out : List ℕ) (budget : ℕ) → partDrive area size image out budget .number ≡ 0
+      → Finishes area image (partTrace area size image out budget)
   unfolding partDrive partTrace
   parts-is-a-caller size out budget e =
-      let s = handing (fresh area checked) image out in
+      let s = handing (fresh area) image out in
       let run = runs (partTurn size) budget s in
-      let stands = turns-call area checked image size budget s [] (starts (fresh area checked) refl) in
+      let stands = turns-call area image size budget s [] (starts (fresh area) refl) in
       by-number (number (endTold (run .end))) (run .state .operation) (run .state .left) (run .state .out) (runShows (partTurn size) (partTurnShows size) budget s)
       (stands .reached) (stands .all-handed) e

@@ -6,13 +6,13 @@ use native.Mathlib.Omega.{arith}
 use native.Mathlib.Decide.{decLt}
 use lib.ListN.{length, take, drop, length-append, length-take, length-drop, length-map, take-append-drop}
 use lib.Seq.{length-take-le, take-at}
+use Rattle.crc.specs.Check.{crcOver}
 use Rattle.promise.specs.Told.{given}
 use Rattle.promise.specs.Bytes.{front}
 use Rattle.maskrom_transfer.specs.declared.MaskRomSteps.the-variants.{Writing}
 use Rattle.maskrom.specs.declared.MaskRomOperation.{MaskRomOperation}
 use Rattle.maskrom.specs.Answers.{longest, control, took, filled}
 use Rattle.theorems.specs.UploadBytes.{cut}
-use Rattle.maskrom_transfer.specs.Moves.{register}
 use Rattle.promise.specs.Does.{does, said, sent, after}
 use Rattle.maskrom.specs.PartWise.{waiting, held, closed, holding, takes, partStep, closeStep}
 use Rattle.maskrom_transfer.proofs.Lists.{take-min}
@@ -21,7 +21,7 @@ use Rattle.maskrom.proofs.Writes.{front-seen}
 use Rattle.maskrom.proofs.Cases.{part-takes, takes-full, takes-some}
 use Rattle.theorems.specs.PartDriver.{Transfer, transfer, Drive, ended, sending, orAgain, onPart, hand, handAll, stepThrough}
 use Rattle.theorems.proofs.CutIntoTransfers.{cut-block, cut-many}
-use Rattle.maskrom.proofs.Register.{register-empty}
+use Rattle.crc.proofs.Laws.{over-empty}
 use Rattle.theorems.proofs.BehindTheImage.{ending, regroup, ending-same, ending-few}
 use Rattle.theorems.proofs.StepsToFinish.{Sends, enough, front-room}
 use Rattle.theorems.proofs.ClosingSends.{close-sends}
@@ -33,7 +33,7 @@ pub record Open (m : MaskRomOperation) : Type 0 where
 
 -- the bytes that are to be sent yet where `xs` are to come, and their transfers
 unfoldable pub left : MaskRomOperation → List ℕ → List ℕ
-left m xs = held m ++ (xs ++ ending (m .checked) (register (m .checked) (m .crc) xs) (m .taken + length xs))
+left m xs = held m ++ (xs ++ ending (crcOver (m .crc) xs) (m .taken + length xs))
 
 abbrev pub due : MaskRomOperation → List ℕ → List Transfer
 due m xs = map (transfer (m .area)) (cut (left m xs))
@@ -44,12 +44,12 @@ module _ (m : MaskRomOperation) (o : Open m) where
 
   module _ (ys zs : List ℕ) where
     -- bytes that are taken leave the rest as it was
-    left-taken : left m (ys ++ zs) ≡ (held m ++ ys) ++ (zs ++ ending (m .checked) (register (m .checked) (register (m .checked) (m .crc) ys) zs) (m .taken + length ys + length zs))
+    left-taken : left m (ys ++ zs) ≡ (held m ++ ys) ++ (zs ++ ending (crcOver (crcOver (m .crc) ys) zs) (m .taken + length ys + length zs))
     unfolding left
     left-taken =
         let n : m .taken + length (ys ++ zs) ≡ m .taken + length ys + length zs = simp length-append (omega arith) in
-        let r = zs ++ ending (m .checked) (register (m .checked) (register (m .checked) (m .crc) ys) zs) (m .taken + length ys + length zs) in
-        rw (n, regroup (m .checked) (m .crc) (m .taken + length ys + length zs) ys zs) (sym (append-assoc (held m) ys r))
+        let r = zs ++ ending (crcOver (crcOver (m .crc) ys) zs) (m .taken + length ys + length zs) in
+        rw (n, regroup (m .crc) (m .taken + length ys + length zs) ys zs) (sym (append-assoc (held m) ys r))
 
     pub still-open : waiting m + length ys ≤ 4096 → Open (holding m ys)
     still-open h = record {
@@ -70,7 +70,7 @@ module _ (m : MaskRomOperation) (o : Open m) where
 
     -- what waits behind the bytes taken
     abbrev rest : List ℕ
-    rest = zs ++ ending (m .checked) (register (m .checked) (register (m .checked) (m .crc) ys) zs) (m .taken + length ys + length zs)
+    rest = zs ++ ending (crcOver (crcOver (m .crc) ys) zs) (m .taken + length ys + length zs)
 
     pub due-some : waiting m + length ys < 4096 → due m (ys ++ zs) ≡ due (holding m ys) zs
     unfolding left
@@ -167,14 +167,14 @@ module _ (go : MaskRomOperation → List ℕ → Drive) (qs : List ℕ)
 -- nothing more is to come
 module _ (m : MaskRomOperation) (o : Open m) where
   abbrev behind : List ℕ
-  behind = held m ++ ending (m .checked) (m .crc) (length (held m))
+  behind = held m ++ ending (m .crc) (length (held m))
 
   closing-left : behind ≡ left m []
   unfolding left
   closing-left =
       ap (λ (l : List ℕ). held m ++ l)
-      (ending-same (m .checked) (m .crc) (length (held m)) (m .taken + 0) (omega (arith, held-long m o))
-      ∙ ap (λ (c : ℕ). ending (m .checked) c (m .taken + 0)) (sym (register-empty (m .checked) (m .crc))))
+      (ending-same (m .crc) (length (held m)) (m .taken + 0) (omega (arith, held-long m o))
+      ∙ ap (λ (c : ℕ). ending c (m .taken + 0)) (sym (over-empty (m .crc))))
 
   pub close-due : Sends closeStep m (due m [])
   close-due =
@@ -186,7 +186,7 @@ module _ (m : MaskRomOperation) (o : Open m) where
       let bs = behind in
       subst (λ (l : List ℕ). length (map (transfer (m .area)) (cut l)) < 3) closing-left
       (omega
-      (arith, length-map (cut bs) (transfer (m .area)), cut-many bs, held-long m o, length-append (held m) (ending (m .checked) (m .crc) (length (held m))), ending-few (m .checked) (m .crc) (length (held m))))
+      (arith, length-map (cut bs) (transfer (m .area)), cut-many bs, held-long m o, length-append (held m) (ending (m .crc) (length (held m))), ending-few (m .crc) (length (held m))))
 
   close-ends : (out : List ℕ) → 4096 ≤ length out → stepThrough closeStep 3 m out ≡ ended (due m [])
   close-ends out h = enough closeStep 3 m (due m []) out close-due h two-at-most

@@ -23,33 +23,33 @@ pub p4 : (area : ℕ) → transfersOf area false [] ≡ transfer area (0x00 ∷ 
 unfolding transfersOf uploadBytes pad checkBytes lastZero pieces cut
 p4 area = refl
 
-sizes-at : (checked : Bool) (image : List ℕ) (n : ℕ) → length image ≡ n
-    → sizesOf checked image ≡ replicate (total n / blockSize) blockSize ++ (total n % blockSize ∷ [])
-sizes-at checked image n e = sizes checked image ∙ ap (λ (k : ℕ). replicate (total k / blockSize) blockSize ++ (total k % blockSize ∷ [])) e
+sizes-at : (image : List ℕ) (n : ℕ) → length image ≡ n
+    → sizesOf image ≡ replicate (total n / blockSize) blockSize ++ (total n % blockSize ∷ [])
+sizes-at image n e = sizes image ∙ ap (λ (k : ℕ). replicate (total k / blockSize) blockSize ++ (total k % blockSize ∷ [])) e
 
 -- P5 to P8, with a check or without
-module _ (checked : Bool) (image : List ℕ) where
-  pub p5 : length image ≡ 4093 → sizesOf checked image ≡ 4095 ∷ []
+module _ (image : List ℕ) where
+  pub p5 : length image ≡ 4093 → sizesOf image ≡ 4095 ∷ []
   unfolding total pad lastZero
-  p5 e = sizes-at checked image 4093 e
+  p5 e = sizes-at image 4093 e
 
-  pub p6 : length image ≡ 4094 → sizesOf checked image ≡ 4096 ∷ 1 ∷ []
+  pub p6 : length image ≡ 4094 → sizesOf image ≡ 4096 ∷ 1 ∷ []
   unfolding total pad lastZero
-  p6 e = sizes-at checked image 4094 e
+  p6 e = sizes-at image 4094 e
 
-  pub p7 : length image ≡ 4095 → sizesOf checked image ≡ 4096 ∷ 2 ∷ []
+  pub p7 : length image ≡ 4095 → sizesOf image ≡ 4096 ∷ 2 ∷ []
   unfolding total pad lastZero
-  p7 e = sizes-at checked image 4095 e
+  p7 e = sizes-at image 4095 e
 
-  pub p8 : length image ≡ 4096 → sizesOf checked image ≡ 4096 ∷ 2 ∷ []
+  pub p8 : length image ≡ 4096 → sizesOf image ≡ 4096 ∷ 2 ∷ []
   unfolding total pad lastZero
-  p8 e = sizes-at checked image 4096 e
+  p8 e = sizes-at image 4096 e
 
 uploads : (n many last : ℕ) → n ≤ longest → total n / blockSize ≡ many → total n % blockSize ≡ last → Uploads n many last
 uploads n many last l q r = record {
-  ends = λ area checked image parts out e p h. any-cut area checked image parts out p (omega arith) h;
-  number = λ area checked image e. how-many area checked image ∙ ap (λ (k : ℕ). total k / blockSize + 1) e ∙ ap (λ (k : ℕ). k + 1) q;
-  lengths = λ checked image e. sizes-at checked image n e ∙ ap₂ (λ (k j : ℕ). replicate k blockSize ++ (j ∷ [])) q r;
+  ends = λ area image parts out e p h. any-cut area image parts out p (omega arith) h;
+  number = λ area image e. how-many area image ∙ ap (λ (k : ℕ). total k / blockSize + 1) e ∙ ap (λ (k : ℕ). k + 1) q;
+  lengths = λ image e. sizes-at image n e ∙ ap₂ (λ (k j : ℕ). replicate k blockSize ++ (j ∷ [])) q r;
 }
 
 pub longest-but-one : Uploads 4294967294 1048576 1

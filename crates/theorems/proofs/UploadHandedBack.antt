@@ -65,15 +65,15 @@ unfolding turnTold
 left-by-turn P turn.Goes s p = p
 left-by-turn P (turn.Ends stop) s p = p
 
-module _ (lends : List ℕ → Type 0) (area : ℕ) (checked : Bool) (image p : List ℕ) (first : WholeUpload) (lent : List ℕ) (lend : lends lent) where
+module _ (lends : List ℕ → Type 0) (area : ℕ) (image p : List ℕ) (first : WholeUpload) (lent : List ℕ) (lend : lends lent) where
   -- the bytes q were taken since `first`: those of the lent image behind what that had taken
   abbrev TookOn : WholeUpload → Type 0
-  TookOn u = (q : List ℕ) × (WholeMade lends area checked image (p ++ q) u × (take (first .taken) lent ++ q ≡ take (u .taken) lent))
+  TookOn u = (q : List ℕ) × (WholeMade lends area image (p ++ q) u × (take (first .taken) lent ++ q ≡ take (u .taken) lent))
 
-  took-none : WholeMade lends area checked image p first → TookOn first
+  took-none : WholeMade lends area image p first → TookOn first
   took-none made = (
     [],
-    (subst (λ (l : List ℕ). WholeMade lends area checked image l first) (sym (append-nil p)) made, append-nil (take (first .taken) lent)),
+    (subst (λ (l : List ℕ). WholeMade lends area image l first) (sym (append-nil p)) made, append-nil (take (first .taken) lent)),
   )
 
   step-takes-on : (u : WholeUpload) (before : List ℕ) → TookOn u → TookOn (after u (wholeStep u lent (length before)))
@@ -83,13 +83,13 @@ module _ (lends : List ℕ → Type 0) (area : ℕ) (checked : Bool) (image p : 
       let a = whole-answered u lent before in
       let r = a .0 in
       let w = sentOf r u lent in
-      let next : WholeMade lends area checked image ((p ++ q) ++ w) (r .next) =
+      let next : WholeMade lends area image ((p ++ q) ++ w) (r .next) =
       record { begun = made .begun; starts = made .starts; calls = step-call (p ++ q) u (made .calls) lent lend r before (a .1) (a .2) } in
       let bytes : (take (first .taken) lent ++ q) ++ w ≡ take (r .next .taken) lent = took-step lent (take (first .taken) lent ++ q) u (so-far .1 .1) r before (a .1) (a .2) in
       subst TookOn (a .2 .next) (
         q ++ w,
         (
-          subst (λ (l : List ℕ). WholeMade lends area checked image l (r .next)) (append-assoc p q w) next,
+          subst (λ (l : List ℕ). WholeMade lends area image l (r .next)) (append-assoc p q w) next,
           sym (append-assoc (take (first .taken) lent) q w) ∙ bytes,
         ),
       )
@@ -131,17 +131,17 @@ module _ (lends : List ℕ → Type 0) (area : ℕ) (checked : Bool) (image p : 
   runs-on (suc budget) s so-far = follow-on (loadTurn lent s) (λ next. runs (loadTurn lent) budget next) (turn-on s so-far) (λ next on. runs-on budget next on)
 
   -- over the contract of `load_turn`
-  pub upload-turn-hands-back-made : (r : LoadTurned) (device : MockState) (store left : List ℕ) → WholeMade lends area checked image p first
+  pub upload-turn-hands-back-made : (r : LoadTurned) (device : MockState) (store left : List ℕ) → WholeMade lends area image p first
       → TurnMeets r left (loadTurn lent (loadState first device store))
-      → (q : List ℕ) × (WholeMade lends area checked image (p ++ q) (r .upload) × (take (first .taken) lent ++ q ≡ take (r .upload .taken) lent))
+      → (q : List ℕ) × (WholeMade lends area image (p ++ q) (r .upload) × (take (first .taken) lent ++ q ≡ take (r .upload .taken) lent))
   upload-turn-hands-back-made r device store left made m =
       left-by-turn On (r .turn) (loadState (r .upload) (r .device) left)
       (subst (Leaves On) (sym (m .tells)) (turn-on (loadState first device store) (took-none made)))
 
   -- over the contract of `run_upload`, and so of `run_whole_upload`
-  pub upload-run-hands-back-made : (r : LoadRun) (device : MockState) (store left : List ℕ) (flash budget : ℕ) → WholeMade lends area checked image p first
+  pub upload-run-hands-back-made : (r : LoadRun) (device : MockState) (store left : List ℕ) (flash budget : ℕ) → WholeMade lends area image p first
       → RunMeets r left (loadRun lent flash budget (loadState first device store))
-      → (q : List ℕ) × (WholeMade lends area checked image (p ++ q) (r .upload) × (take (first .taken) lent ++ q ≡ take (r .upload .taken) lent))
+      → (q : List ℕ) × (WholeMade lends area image (p ++ q) (r .upload) × (take (first .taken) lent ++ q ≡ take (r .upload .taken) lent))
   unfolding loadRun
   upload-run-hands-back-made r device store left flash budget made m =
       let s = loadState first device store in

@@ -49,11 +49,11 @@ loads-keep area pieces k device store r (sent-on j bytes rest d l next t on) =
     keeps-then d (c .next) (next .state .device) l (c .leaves) (next .state .store) (control-keeps d area bytes l) (loads-keep area rest j (c .next) (c .leaves) next on)
 
 -- the transaction, the last reset, the configuration and the store's length are as they were, and the areas stay sound
-pub upload-keeps : (area : ℕ) (checked : Bool) (image : List ℕ) (flash : ℕ) (device : MockState) (store : List ℕ) (budget : ℕ)
-    → Keeps device store (uploadRun area checked image flash device store budget .state .device) (uploadRun area checked image flash device store budget .state .store)
+pub upload-keeps : (area : ℕ) (image : List ℕ) (flash : ℕ) (device : MockState) (store : List ℕ) (budget : ℕ)
+    → Keeps device store (uploadRun area image flash device store budget .state .device) (uploadRun area image flash device store budget .state .store)
 unfolding loadRun
-upload-keeps area checked image flash device store budget =
-    let s = loadState (freshWhole area checked (length image)) device store in
+upload-keeps area image flash device store budget =
+    let s = loadState (freshWhole area (length image)) device store in
     either-way (λ (r : Ran Unit LoadState). Keeps device store (r .state .device) (r .state .store)) (unstarted s) (loadRules s flash (length image))
     (runs (loadTurn image) budget s) (λ n values. keeps-all device store)
-    (λ met. loads-keep area (cut (uploadBytes checked image)) budget device store (runs (loadTurn image) budget s) (fresh-loads area checked image budget device store))
+    (λ met. loads-keep area (cut (uploadBytes image)) budget device store (runs (loadTurn image) budget s) (fresh-loads area image budget device store))

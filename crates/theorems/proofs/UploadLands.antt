@@ -81,49 +81,49 @@ transfers-made area pieces k device store r (sent-on j piece rest d l run t on) 
     let c = written d area piece l in
     transfers-join d area l sound long rest j (c .next) (c .leaves) run on e piece (ap (λ (x : Told Unit). record { told = x; next = c .next; leaves = c .leaves }) t)
 
-module _ (area : ℕ) (checked : Bool) (image : List ℕ) (flash : ℕ) (device : MockState) (store : List ℕ) (budget : ℕ) where
+module _ (area : ℕ) (image : List ℕ) (flash : ℕ) (device : MockState) (store : List ℕ) (budget : ℕ) where
   abbrev left : LoadState
-  left = uploadRun area checked image flash device store budget .state
+  left = uploadRun area image flash device store budget .state
 
-  module _ (sound : Sound (device .areas) store) (e : uploadRun area checked image flash device store budget .end ≡ tells (given tt)) where
+  module _ (sound : Sound (device .areas) store) (e : uploadRun area image flash device store budget .end ≡ tells (given tt)) where
     -- it met the checks before its first step
     started : (length store ≡ device .«store_length»)
-        × (uploadRun area checked image flash device store budget ≡ runs (loadTurn image) budget (loadState (freshWhole area checked (length image)) device store))
+        × (uploadRun area image flash device store budget ≡ runs (loadTurn image) budget (loadState (freshWhole area (length image)) device store))
     unfolding loadRun loadRules flashRules endTold
     started =
-        let s = loadState (freshWhole area checked (length image)) device store in
+        let s = loadState (freshWhole area (length image)) device store in
         let p = passed (λ (r : Ran Unit LoadState). endTold (r .end)) (unstarted s) (λ n values. refl) (loadRules s flash (length image)) (runs (loadTurn image) budget s) tt
         (ap endTold e) in
         (eqb-true (length store) (device .«store_length») (not-false (eqb (length store) (device .«store_length»)) (p .0 .1 .1 .0)), p .1)
 
     -- ONE WRITE. An unrefused upload leaves the device and the store as one accepted transfer of all its bytes would
-    pub one-write : written device area (uploadBytes checked image) store ≡ accepts (left .device) (left .store)
+    pub one-write : written device area (uploadBytes image) store ≡ accepts (left .device) (left .store)
     one-write =
-        let bytes = uploadBytes checked image in
-        let run = runs (loadTurn image) budget (loadState (freshWhole area checked (length image)) device store) in
+        let bytes = uploadBytes image in
+        let run = runs (loadTurn image) budget (loadState (freshWhole area (length image)) device store) in
         let ends : run .end ≡ tells (given tt) = ap (λ (r : Ran Unit LoadState). r .end) (sym (started .1)) ∙ e in
         ap (λ (l : List ℕ). written device area l store) (sym (cut-joins bytes))
-        ∙ transfers-made area (cut bytes) budget device store run (fresh-loads area checked image budget device store)
+        ∙ transfers-made area (cut bytes) budget device store run (fresh-loads area image budget device store)
         (λ none. omega (arith, cut-many bytes, ap length none)) ends sound (started .0)
         ∙ ap (λ (r : Ran Unit LoadState). accepts (r .state .device) (r .state .store)) (sym (started .1))
 
     -- its own area gains the upload's bytes, and every other stays
-    pub upload-lands : Controlled device area (uploadBytes checked image) store (accepts (left .device) (left .store))
+    pub upload-lands : Controlled device area (uploadBytes image) store (accepts (left .device) (left .store))
     upload-lands =
-        subst (Controlled device area (uploadBytes checked image) store) one-write (control-areas device 0x40 0xc 0 area (uploadBytes checked image) store sound)
+        subst (Controlled device area (uploadBytes image) store) one-write (control-areas device 0x40 0xc 0 area (uploadBytes image) store sound)
 
-    as-written : accepts (left .device) (left .store) ≡ asCall device (appendStep (device .areas) area (uploadBytes checked image) store)
-    as-written = sym one-write ∙ as-append device area (uploadBytes checked image) store (started .0)
+    as-written : accepts (left .device) (left .store) ≡ asCall device (appendStep (device .areas) area (uploadBytes image) store)
+    as-written = sym one-write ∙ as-append device area (uploadBytes image) store (started .0)
 
     still-long : length (left .store) ≡ left .device .«store_length»
     still-long = upload-lands .long ∙ started .0 ∙ sym (ap (λ (c : Call). c .next .«store_length») as-written)
 
     -- the same, as `maskrom_area` finds them
-    pub area-gains : bytesAt (maskromArea (left .device) area) (left .store) ≡ some (soFar (bytesAt (maskromArea device area) store) ++ uploadBytes checked image)
+    pub area-gains : bytesAt (maskromArea (left .device) area) (left .store) ≡ some (soFar (bytesAt (maskromArea device area) store) ++ uploadBytes image)
     unfolding gains
     area-gains =
         maskrom-bytes (left .device) area (left .store) still-long ∙ upload-lands .own
-        ∙ ap (λ (before : Option (List ℕ)). some (soFar before ++ uploadBytes checked image)) (sym (maskrom-bytes device area store (started .0)))
+        ∙ ap (λ (before : Option (List ℕ)). some (soFar before ++ uploadBytes image)) (sym (maskrom-bytes device area store (started .0)))
 
     pub areas-stay : (other : ℕ) → (other ≡ area → ⊥) → bytesAt (maskromArea (left .device) other) (left .store) ≡ bytesAt (maskromArea device other) store
     areas-stay other apart =
@@ -131,8 +131,8 @@ module _ (area : ℕ) (checked : Bool) (image : List ℕ) (flash : ℕ) (device 
 
     -- and every byte of the store but those is as it was
     pub store-over : left .store
-        ≡ over (place area (device .areas .slots) .slot * slotSize (length store) + place area (device .areas .slots) .used) (uploadBytes checked image) store
+        ≡ over (place area (device .areas .slots) .slot * slotSize (length store) + place area (device .areas .slots) .used) (uploadBytes image) store
     unfolding appendedAt
     store-over =
         let told = ap (λ (c : Call). c .told) (sym as-written) in
-        ap (λ (c : Call). c .leaves) as-written ∙ ap (λ (a : Appending). a .leaves) (accepted (device .areas) area (uploadBytes checked image) store told .step)
+        ap (λ (c : Call). c .leaves) as-written ∙ ap (λ (a : Appending). a .leaves) (accepted (device .areas) area (uploadBytes image) store told .step)

@@ -74,17 +74,17 @@ loads-told area pieces k device store r (stopped j bytes rest d l u number value
 loads-told area pieces k device store r (sent-on j bytes rest d l next t on) e h =
     loads-told area rest j _ _ next on (control-long d area bytes l e) (omega arith)
 
-module _ (area : ℕ) (checked : Bool) (image : List ℕ) (flash : ℕ) (device : MockState) (store : List ℕ) (sectors : ℕ)
+module _ (area : ℕ) (image : List ℕ) (flash : ℕ) (device : MockState) (store : List ℕ) (sectors : ℕ)
     (legal : flashSectors flash ≡ given sectors) (long : length store ≡ device .«store_length») where
   -- where the checks before its first step are met, an upload is told one of the three
-  pub upload-told : (budget : ℕ) → length (uploadBytes checked image) / blockSize + 2 ≤ budget
-      → UploadTold (endTold (uploadRun area checked image flash device store budget .end))
+  pub upload-told : (budget : ℕ) → length (uploadBytes image) / blockSize + 2 ≤ budget
+      → UploadTold (endTold (uploadRun area image flash device store budget .end))
   unfolding sizeTold
   upload-told budget h =
-      let s = loadState (freshWhole area checked (length image)) device store in
+      let s = loadState (freshWhole area (length image)) device store in
       rw (unrefused image flash budget s (size.Whole sectors) sectors (sym legal) refl long refl)
-      (loads-told area (cut (uploadBytes checked image)) budget device store (runs (loadTurn image) budget s) (fresh-loads area checked image budget device store) long
-      (omega (arith, cut-many (uploadBytes checked image))))
+      (loads-told area (cut (uploadBytes image)) budget device store (runs (loadTurn image) budget s) (fresh-loads area image budget device store) long
+      (omega (arith, cut-many (uploadBytes image))))
 
-  pub whole-upload-told : UploadTold (endTold (uploadRun area checked image flash device store (uploadBudget (length image)) .end))
-  whole-upload-told = upload-told (uploadBudget (length image)) (whole-many checked image)
+  pub whole-upload-told : UploadTold (endTold (uploadRun area image flash device store (uploadBudget (length image)) .end))
+  whole-upload-told = upload-told (uploadBudget (length image)) (whole-many image)

@@ -59,7 +59,7 @@ unfolding wholeStep sendsOn becomes
 step-image u image =
     let w = chunk u image in
     either-way (λ (t : Told (Does Asks WholeUpload)). becomes u t .length ≡ u .length) refused _ (sendsOn u w blockSize) (λ n values. refl)
-    (λ met. sent-image u w (sendStep (u .steps) (u .checked) (moves.register (u .checked) (u .crc) w) w blockSize))
+    (λ met. sent-image u w (sendStep (u .steps) (moves.crcOver (u .crc) w) w blockSize))
 
 -- a control write keeps the store's length
 control-kept : (device : MockState) (type request value index : ℕ) (bytes store : List ℕ)

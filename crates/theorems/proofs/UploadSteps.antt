@@ -8,8 +8,8 @@ use native.Mathlib.Omega.{arith}
 use lib.ListN.{length, length-append}
 use Rattle.promise.specs.Told.{Told, given, refused}
 use Rattle.promise.proofs.Outcome.{either-way}
-use Rattle.crc.specs.Check.{start}
-use Rattle.maskrom_transfer.specs.Moves.{blockSize, register}
+use Rattle.crc.specs.Check.{start, crcOver}
+use Rattle.maskrom_transfer.specs.Moves.{blockSize}
 use Rattle.maskrom.specs.Whole.{freshWhole}
 use Rattle.theorems.specs.UploadBytes.{uploadBytes, cut}
 use Rattle.theorems.proofs.CutIntoTransfers.{cut-many}
@@ -45,45 +45,45 @@ module _ (area : ℕ) where
   enough pieces k device store r (stopped j bytes rest d l u number values t) h e = told-spent (refused number values) e
   enough pieces k device store r (sent-on j bytes rest d l next t on) h e = enough rest j _ _ next on (omega arith) e
 
-module _ (area : ℕ) (checked : Bool) (image : List ℕ) (flash : ℕ) (device : MockState) (store : List ℕ) where
+module _ (area : ℕ) (image : List ℕ) (flash : ℕ) (device : MockState) (store : List ℕ) where
   abbrev at-start : LoadState
-  at-start = loadState (freshWhole area checked (length image)) device store
+  at-start = loadState (freshWhole area (length image)) device store
 
   -- "floor(T/4,096)+2 for an upload", T being the length of its bytes
-  pub upload-steps : (budget : ℕ) → uploadRun area checked image flash device store budget .end ≡ tells (given tt)
-      → uploadRun area checked image flash device store budget .steps ≡ length (uploadBytes checked image) / blockSize + 2
+  pub upload-steps : (budget : ℕ) → uploadRun area image flash device store budget .end ≡ tells (given tt)
+      → uploadRun area image flash device store budget .steps ≡ length (uploadBytes image) / blockSize + 2
   unfolding loadRun
   upload-steps budget =
-      either-way (λ (r : Ran Unit LoadState). r .end ≡ tells (given tt) → r .steps ≡ length (uploadBytes checked image) / blockSize + 2)
+      either-way (λ (r : Ran Unit LoadState). r .end ≡ tells (given tt) → r .steps ≡ length (uploadBytes image) / blockSize + 2)
       (unstarted at-start) (loadRules at-start flash (length image)) (runs (loadTurn image) budget at-start)
       (λ n values e. given-refused n values e)
       (λ met e.
       omega (
         arith,
-        taken area (cut (uploadBytes checked image)) budget device store (runs (loadTurn image) budget at-start) (fresh-loads area checked image budget device store) e,
-        cut-many (uploadBytes checked image),
+        taken area (cut (uploadBytes image)) budget device store (runs (loadTurn image) budget at-start) (fresh-loads area image budget device store) e,
+        cut-many (uploadBytes image),
       ))
 
   -- a budget of so many steps is never used up before the finish or a refusal ..
-  pub enough-steps : (budget : ℕ) → length (uploadBytes checked image) / blockSize + 2 ≤ budget
-      → uploadRun area checked image flash device store budget .end ≡ outOfSteps → ⊥
+  pub enough-steps : (budget : ℕ) → length (uploadBytes image) / blockSize + 2 ≤ budget
+      → uploadRun area image flash device store budget .end ≡ outOfSteps → ⊥
   unfolding loadRun
   enough-steps budget h =
       either-way (λ (r : Ran Unit LoadState). r .end ≡ outOfSteps → ⊥)
       (unstarted at-start) (loadRules at-start flash (length image)) (runs (loadTurn image) budget at-start)
       (λ n values e. told-spent (refused n values) e)
       (λ met.
-      enough area (cut (uploadBytes checked image)) budget device store (runs (loadTurn image) budget at-start) (fresh-loads area checked image budget device store)
-      (omega (arith, cut-many (uploadBytes checked image))))
+      enough area (cut (uploadBytes image)) budget device store (runs (loadTurn image) budget at-start) (fresh-loads area image budget device store)
+      (omega (arith, cut-many (uploadBytes image))))
 
 -- four bytes at most follow the image
-pub whole-many : (checked : Bool) (image : List ℕ) → length (uploadBytes checked image) / blockSize + 2 ≤ uploadBudget (length image)
-whole-many checked image =
-    let tail = ending checked (register checked start image) (length image) in
-    omega (arith, ap length (upload-ending checked image) ∙ length-append image tail, ending-few checked (register checked start image) (length image))
+pub whole-many : (image : List ℕ) → length (uploadBytes image) / blockSize + 2 ≤ uploadBudget (length image)
+whole-many image =
+    let tail = ending (crcOver start image) (length image) in
+    omega (arith, ap length (upload-ending image) ∙ length-append image tail, ending-few (crcOver start image) (length image))
 
 -- .. and so one whole upload never ends in 28
-pub whole-upload-ends : (area : ℕ) (checked : Bool) (image : List ℕ) (flash : ℕ) (device : MockState) (store : List ℕ)
-    → uploadRun area checked image flash device store (uploadBudget (length image)) .end ≡ outOfSteps → ⊥
-whole-upload-ends area checked image flash device store =
-    enough-steps area checked image flash device store (uploadBudget (length image)) (whole-many checked image)
+pub whole-upload-ends : (area : ℕ) (image : List ℕ) (flash : ℕ) (device : MockState) (store : List ℕ)
+    → uploadRun area image flash device store (uploadBudget (length image)) .end ≡ outOfSteps → ⊥
+whole-upload-ends area image flash device store =
+    enough-steps area image flash device store (uploadBudget (length image)) (whole-many image)

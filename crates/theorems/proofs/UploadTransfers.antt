@@ -77,9 +77,9 @@ module _ (image : List ℕ) (area : ℕ) where
       (by-told k p pieces device store r′ (written device area p store .told) refl (loads k r′ us pieces s tail))
 
 -- a fresh upload has the transfers of its bytes to make
-pub fresh-loads : (area : ℕ) (checked : Bool) (image : List ℕ) (budget : ℕ) (device : MockState) (store : List ℕ)
-    → Loads area (cut (uploadBytes checked image)) budget device store
-    (runs (loadTurn image) budget (loadState (freshWhole area checked (length image)) device store))
+pub fresh-loads : (area : ℕ) (image : List ℕ) (budget : ℕ) (device : MockState) (store : List ℕ)
+    → Loads area (cut (uploadBytes image)) budget device store
+    (runs (loadTurn image) budget (loadState (freshWhole area (length image)) device store))
 unfolding transfersOf
-fresh-loads area checked image budget device store =
-    loads image area budget (freshWhole area checked (length image)) (transfersOf area checked image) (cut (uploadBytes checked image)) (whole-start area checked image) refl device store
+fresh-loads area image budget device store =
+    loads image area budget (freshWhole area (length image)) (transfersOf area image) (cut (uploadBytes image)) (whole-start area image) refl device store

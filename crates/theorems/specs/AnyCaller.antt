@@ -36,40 +36,40 @@ askedSeen finish out = []
 
 -- where any calls at all can bring a caller of a part-wise upload: to a record, with these bytes taken, by the counts of the answers, and these
 -- transfers seen
-pub data Called (area : ℕ) (checked : Bool) : MaskRomOperation → List ℕ → List Transfer → Type 0 where
+pub data Called (area : ℕ) : MaskRomOperation → List ℕ → List Transfer → Type 0 where
   -- `MaskRomOperation::new`, or `new_no_crc`
-  made : (m : MaskRomOperation) → m ≡ fresh area checked → Called area checked m [] []
+  made : (m : MaskRomOperation) → m ≡ fresh area → Called area m [] []
   -- a part, or a closing step, that is not refused
   taking : (m : MaskRomOperation) (taken : List ℕ) (ts : List Transfer) (part before now : List ℕ) (r : PartStepped) (a : Handed)
-      → Called area checked m taken ts → PartMeets r m part before now → partTold (r .step) ≡ given a
-      → Called area checked (r .next) (taken ++ take (takenBy a) part) (ts ++ handedSeen a now)
+      → Called area m taken ts → PartMeets r m part before now → partTold (r .step) ≡ given a
+      → Called area (r .next) (taken ++ take (takenBy a) part) (ts ++ handedSeen a now)
   closing : (m : MaskRomOperation) (taken : List ℕ) (ts : List Transfer) (before now : List ℕ) (r : CloseStepped) (a : Asks)
-      → Called area checked m taken ts → CloseMeets r m before now → stepTold (r .step) ≡ given a
-      → Called area checked (r .next) taken (ts ++ askedSeen a now)
+      → Called area m taken ts → CloseMeets r m before now → stepTold (r .step) ≡ given a
+      → Called area (r .next) taken (ts ++ askedSeen a now)
   -- a call that is refused
   no-part : (m : MaskRomOperation) (taken : List ℕ) (ts : List Transfer) (part before now : List ℕ) (r : PartStepped) (n : ℕ) (vs : List ℕ)
-      → Called area checked m taken ts → PartMeets r m part before now → partTold (r .step) ≡ refused n vs → Called area checked (r .next) taken ts
+      → Called area m taken ts → PartMeets r m part before now → partTold (r .step) ≡ refused n vs → Called area (r .next) taken ts
   no-closing : (m : MaskRomOperation) (taken : List ℕ) (ts : List Transfer) (before now : List ℕ) (r : CloseStepped) (n : ℕ) (vs : List ℕ)
-      → Called area checked m taken ts → CloseMeets r m before now → stepTold (r .step) ≡ refused n vs → Called area checked (r .next) taken ts
+      → Called area m taken ts → CloseMeets r m before now → stepTold (r .step) ≡ refused n vs → Called area (r .next) taken ts
 
 -- he went on until he was answered the finish
-pub data Uploaded (area : ℕ) (checked : Bool) : List ℕ → List Transfer → Type 0 where
+pub data Uploaded (area : ℕ) : List ℕ → List Transfer → Type 0 where
   uploaded : (m : MaskRomOperation) (taken : List ℕ) (ts : List Transfer) (before now : List ℕ) (r : CloseStepped)
-      → Called area checked m taken ts → CloseMeets r m before now → stepTold (r .step) ≡ given finish → Uploaded area checked taken ts
+      → Called area m taken ts → CloseMeets r m before now → stepTold (r .step) ≡ given finish → Uploaded area taken ts
 
 -- how many of his calls took a byte at least, and how many closing steps were not refused
 unfoldable pub oneOf : ℕ → ℕ
 oneOf zero = 0
 oneOf (suc n) = 1
 
-unfoldable pub takingCalls : {area : ℕ} {checked : Bool} (m : MaskRomOperation) (taken : List ℕ) (ts : List Transfer) → Called area checked m taken ts → ℕ
+unfoldable pub takingCalls : {area : ℕ} (m : MaskRomOperation) (taken : List ℕ) (ts : List Transfer) → Called area m taken ts → ℕ
 takingCalls _ _ _ (made m e) = 0
 takingCalls _ _ _ (taking m taken ts part before now r a d p g) = takingCalls m taken ts d + oneOf (takenBy a)
 takingCalls _ _ _ (closing m taken ts before now r a d p g) = takingCalls m taken ts d
 takingCalls _ _ _ (no-part m taken ts part before now r n vs d p g) = takingCalls m taken ts d
 takingCalls _ _ _ (no-closing m taken ts before now r n vs d p g) = takingCalls m taken ts d
 
-unfoldable pub closingSteps : {area : ℕ} {checked : Bool} (m : MaskRomOperation) (taken : List ℕ) (ts : List Transfer) → Called area checked m taken ts → ℕ
+unfoldable pub closingSteps : {area : ℕ} (m : MaskRomOperation) (taken : List ℕ) (ts : List Transfer) → Called area m taken ts → ℕ
 closingSteps _ _ _ (made m e) = 0
 closingSteps _ _ _ (taking m taken ts part before now r a d p g) = closingSteps m taken ts d
 closingSteps _ _ _ (closing m taken ts before now r a d p g) = closingSteps m taken ts d + 1
@@ -80,29 +80,29 @@ closingSteps _ _ _ (no-closing m taken ts before now r n vs d p g) = closingStep
 
 -- where his calls can bring him: to a record, with `left` of the image to be handed over yet, and these transfers seen. Of calls that are refused nothing
 -- is asked.
-pub data Reached (area : ℕ) (checked : Bool) (image : List ℕ) : MaskRomOperation → List ℕ → List Transfer → Type 0 where
+pub data Reached (area : ℕ) (image : List ℕ) : MaskRomOperation → List ℕ → List Transfer → Type 0 where
   -- `MaskRomOperation::new`, or `new_no_crc`: all of the image is left
-  starts : (m : MaskRomOperation) → m ≡ fresh area checked → Reached area checked image m image []
+  starts : (m : MaskRomOperation) → m ≡ fresh area → Reached area image m image []
   -- a part that begins what is left, any of it or none: what the answer says was taken is left no more
   hands : (m : MaskRomOperation) (left : List ℕ) (ts : List Transfer) (part rest before now : List ℕ) (r : PartStepped) (a : Handed)
-      → Reached area checked image m left ts → left ≡ part ++ rest → PartMeets r m part before now → partTold (r .step) ≡ given a
-      → Reached area checked image (r .next) (drop (takenBy a) left) (ts ++ handedSeen a now)
+      → Reached area image m left ts → left ≡ part ++ rest → PartMeets r m part before now → partTold (r .step) ≡ given a
+      → Reached area image (r .next) (drop (takenBy a) left) (ts ++ handedSeen a now)
   -- a closing step, once nothing is left
   closes : (m : MaskRomOperation) (left : List ℕ) (ts : List Transfer) (before now : List ℕ) (r : CloseStepped) (a : Asks)
-      → Reached area checked image m left ts → left ≡ [] → CloseMeets r m before now → stepTold (r .step) ≡ given a
-      → Reached area checked image (r .next) left (ts ++ askedSeen a now)
+      → Reached area image m left ts → left ≡ [] → CloseMeets r m before now → stepTold (r .step) ≡ given a
+      → Reached area image (r .next) left (ts ++ askedSeen a now)
   -- a call that is refused, whatever it hands over and whenever it comes
   part-refused : (m : MaskRomOperation) (left : List ℕ) (ts : List Transfer) (part before now : List ℕ) (r : PartStepped) (n : ℕ) (vs : List ℕ)
-      → Reached area checked image m left ts → PartMeets r m part before now → partTold (r .step) ≡ refused n vs
-      → Reached area checked image (r .next) left ts
+      → Reached area image m left ts → PartMeets r m part before now → partTold (r .step) ≡ refused n vs
+      → Reached area image (r .next) left ts
   close-refused : (m : MaskRomOperation) (left : List ℕ) (ts : List Transfer) (before now : List ℕ) (r : CloseStepped) (n : ℕ) (vs : List ℕ)
-      → Reached area checked image m left ts → CloseMeets r m before now → stepTold (r .step) ≡ refused n vs
-      → Reached area checked image (r .next) left ts
+      → Reached area image m left ts → CloseMeets r m before now → stepTold (r .step) ≡ refused n vs
+      → Reached area image (r .next) left ts
 
 -- he went on until he was answered the finish, and has seen these transfers
-pub data Finishes (area : ℕ) (checked : Bool) (image : List ℕ) : List Transfer → Type 0 where
+pub data Finishes (area : ℕ) (image : List ℕ) : List Transfer → Type 0 where
   finishes : (m : MaskRomOperation) (left : List ℕ) (ts : List Transfer) (before now : List ℕ) (r : CloseStepped)
-      → Reached area checked image m left ts → CloseMeets r m before now → stepTold (r .step) ≡ given finish → Finishes area checked image ts
+      → Reached area image m left ts → CloseMeets r m before now → stepTold (r .step) ≡ given finish → Finishes area image ts
 
 -- what comes of it if he lends 4,096 bytes of output or more at each call
 
@@ -127,22 +127,22 @@ ComesBy (suc calls) all m left ts =
 -- any caller of a whole upload, who lends its image at every step
 
 -- where his calls can bring him: to a record, with these transfers seen. A step that is refused may have been lent anything.
-pub data Stepped (area : ℕ) (checked : Bool) (image : List ℕ) : WholeUpload → List Transfer → Type 0 where
+pub data Stepped (area : ℕ) (image : List ℕ) : WholeUpload → List Transfer → Type 0 where
   -- `write_area`, or `write_area_no_crc`
-  begun : (r : WholeStart) → StartMeets r area checked image → startTold (r .start) ≡ given tt → Stepped area checked image (r .upload) []
+  begun : (r : WholeStart) → StartMeets r area image → startTold (r .start) ≡ given tt → Stepped area image (r .upload) []
   stepping : (u : WholeUpload) (ts : List Transfer) (before now : List ℕ) (r : WholeStepped) (a : Asks)
-      → Stepped area checked image u ts → StepMeets r u image before now → stepTold (r .step) ≡ given a
-      → Stepped area checked image (r .next) (ts ++ askedSeen a now)
+      → Stepped area image u ts → StepMeets r u image before now → stepTold (r .step) ≡ given a
+      → Stepped area image (r .next) (ts ++ askedSeen a now)
   no-step : (u : WholeUpload) (ts : List Transfer) (other before now : List ℕ) (r : WholeStepped) (n : ℕ) (vs : List ℕ)
-      → Stepped area checked image u ts → StepMeets r u other before now → stepTold (r .step) ≡ refused n vs → Stepped area checked image (r .next) ts
+      → Stepped area image u ts → StepMeets r u other before now → stepTold (r .step) ≡ refused n vs → Stepped area image (r .next) ts
 
 -- he went on until he was answered the finish, and has seen these transfers
-pub data WholeFinishes (area : ℕ) (checked : Bool) (image : List ℕ) : List Transfer → Type 0 where
+pub data WholeFinishes (area : ℕ) (image : List ℕ) : List Transfer → Type 0 where
   whole-finishes : (u : WholeUpload) (ts : List Transfer) (before now : List ℕ) (r : WholeStepped)
-      → Stepped area checked image u ts → StepMeets r u image before now → stepTold (r .step) ≡ given finish → WholeFinishes area checked image ts
+      → Stepped area image u ts → StepMeets r u image before now → stepTold (r .step) ≡ given finish → WholeFinishes area image ts
 
 -- how many of his steps were not refused
-unfoldable pub stepsMade : {area : ℕ} {checked : Bool} {image : List ℕ} (u : WholeUpload) (ts : List Transfer) → Stepped area checked image u ts → ℕ
+unfoldable pub stepsMade : {area : ℕ} {image : List ℕ} (u : WholeUpload) (ts : List Transfer) → Stepped area image u ts → ℕ
 stepsMade _ _ (begun r m g) = 0
 stepsMade _ _ (stepping u ts before now r a d p g) = stepsMade u ts d + 1
 stepsMade _ _ (no-step u ts other before now r n vs d p g) = stepsMade u ts d

@@ -59,7 +59,7 @@ onStartTrace (given d) image out budget = stepTrace (stepOf image) budget (d .be
 onStartTrace (refused n vs) image out budget = []
 
 abbrev pub wholeTrace : ℕ → Bool → List ℕ → List ℕ → ℕ → List Transfer
-wholeTrace area checked image out budget = onStartTrace (startStep area checked image) image out budget
+wholeTrace area image out budget = onStartTrace (startStep area image) image out budget
 
 -- the transfers of `partDrive`: those of the parts, then those of the closing steps where all was handed over
 unfoldable pub onHandedTrace : ℕ → MaskRomOperation → List ℕ → List Transfer
@@ -67,8 +67,8 @@ onHandedTrace zero m out = stepTrace closeStep mostClosing m out
 onHandedTrace (suc n) m out = []
 
 unfoldable pub partTrace : ℕ → Bool → ℕ → List ℕ → List ℕ → ℕ → List Transfer
-partTrace area checked size image out budget =
-    let s = handing (fresh area checked) image out in
+partTrace area size image out budget =
+    let s = handing (fresh area) image out in
     let run = runs (partTurn size) budget s in
     runShows (partTurn size) (partTurnShows size) budget s ++ onHandedTrace (number (endTold (run .end))) (run .state .operation) (run .state .out)
 

@@ -78,7 +78,7 @@ handAll (part ∷ parts) m out go = hand (length part + 1) m part out (λ m′ n
 
 -- a fresh upload, the parts, then closing steps: two transfers at most and the finish
 unfoldable pub driveParts : ℕ → Bool → List (List ℕ) → List ℕ → Drive
-driveParts area checked parts out = handAll parts (fresh area checked) out (λ m now. stepThrough closeStep 3 m now)
+driveParts area parts out = handAll parts (fresh area) out (λ m now. stepThrough closeStep 3 m now)
 
 unfoldable pub onStart : Told Unit → Drive → Drive
 onStart (given u) rest = rest
@@ -86,24 +86,24 @@ onStart (refused n vs) rest = stopped n
 
 -- a fresh whole upload, by k steps at most
 unfoldable pub driveWhole : ℕ → ℕ → Bool → List ℕ → List ℕ → Drive
-driveWhole k area checked image out =
-    let s = startStep area checked image in
-    onStart (said s) (stepThrough (λ (u : WholeUpload) (room : ℕ). wholeStep u image room) k (after (freshWhole area checked 0) s) out)
+driveWhole k area image out =
+    let s = startStep area image in
+    onStart (said s) (stepThrough (λ (u : WholeUpload) (room : ℕ). wholeStep u image room) k (after (freshWhole area 0) s) out)
 
 -- what is to come of it: the upload's bytes, cut into transfers to the area
 abbrev pub transfer : ℕ → List ℕ → Transfer
 transfer area bs = record { setup = control area (length bs); bytes = bs }
 
 unfoldable pub transfersOf : ℕ → Bool → List ℕ → List Transfer
-transfersOf area checked image = map (transfer area) (cut (uploadBytes checked image))
+transfersOf area image = map (transfer area) (cut (uploadBytes image))
 
 -- the sizes of an upload's transfers
 abbrev pub sizesOf : Bool → List ℕ → List ℕ
-sizesOf checked image = map length (cut (uploadBytes checked image))
+sizesOf image = map length (cut (uploadBytes image))
 
 -- an image of n bytes under any cut: what comes of it, how many transfers, and how long the last is
 pub record Uploads (n many last : ℕ) : Type 0 where
-  pub ends : (area : ℕ) (checked : Bool) (image : List ℕ) (parts : List (List ℕ)) (out : List ℕ) → length image ≡ n → flatten parts ≡ image
-      → blockSize ≤ length out → driveParts area checked parts out ≡ ended (transfersOf area checked image)
-  pub number : (area : ℕ) (checked : Bool) (image : List ℕ) → length image ≡ n → length (transfersOf area checked image) ≡ many + 1
-  pub lengths : (checked : Bool) (image : List ℕ) → length image ≡ n → sizesOf checked image ≡ replicate many blockSize ++ (last ∷ [])
+  pub ends : (area : ℕ) (image : List ℕ) (parts : List (List ℕ)) (out : List ℕ) → length image ≡ n → flatten parts ≡ image
+      → blockSize ≤ length out → driveParts area parts out ≡ ended (transfersOf area image)
+  pub number : (area : ℕ) (image : List ℕ) → length image ≡ n → length (transfersOf area image) ≡ many + 1
+  pub lengths : (image : List ℕ) → length image ≡ n → sizesOf image ≡ replicate many blockSize ++ (last ∷ [])

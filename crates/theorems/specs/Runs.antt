@@ -31,7 +31,7 @@ written device area bytes store = writeControl device 0x40 0xc 0 area bytes stor
 
 -- the run of an upload from its start
 abbrev pub uploadRun : ℕ → Bool → List ℕ → ℕ → MockState → List ℕ → ℕ → Ran Unit LoadState
-uploadRun area checked image flash device store budget = loadRun image flash budget (loadState (freshWhole area checked (length image)) device store)
+uploadRun area image flash device store budget = loadRun image flash budget (loadState (freshWhole area (length image)) device store)
 
 -- one whole operation from its start
 abbrev pub operationRun : Kind → CommandBlock → MockState → List ℕ → List ℕ → ℕ → Ran Reply UsbState

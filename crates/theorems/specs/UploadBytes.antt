@@ -15,10 +15,10 @@ lastZero n = pick (eqb (n % blockSize) 4094) (0 ∷ []) []
 
 -- "the image; a zero if ..; the check of all that ..; a zero if .."
 unfoldable pub uploadBytes : Bool → List ℕ → List ℕ
-uploadBytes checked image =
+uploadBytes image =
     let n = length image in
     let body = image ++ pad n in
-    body ++ (checkBytes checked (check body) ++ lastZero n)
+    body ++ (checkBytes (check body) ++ lastZero n)
 
 -- k transfers, each as long as it can be
 unfoldable pub pieces : ℕ → List ℕ → List (List ℕ)

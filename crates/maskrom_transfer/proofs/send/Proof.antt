@@ -21,7 +21,7 @@ returns : tie.Need-returns
 unfolding sentTold
 returns c =
     let a = c .before .before .args in
-    keeps tooShort (send-20 (a .steps) (a .checked) (a .crc) (take (a .n) (a .block)) (length (now (a .out))) (c .if1 .taken)) refl refl refl
+    keeps tooShort (send-20 (a .steps) (a .crc) (take (a .n) (a .block)) (length (now (a .out))) (c .if1 .taken)) refl refl refl
 
 block-long : (s : tie.Start) → length (s .args .block) ≡ 4096
 block-long s = search needs
@@ -34,13 +34,13 @@ returns-2 c =
     let s = k .before .before .before in
     let a = s .args in
     let w = take (a .n) (a .block) in
-    let to = movesAt (a .steps) (a .checked) (a .crc) w in
+    let to = movesAt (a .steps) (a .crc) w in
     let same : take (k .least .result) (a .block) ≡ w =
     ap (λ (n : ℕ). take n (a .block)) (k .least .ensures ∙ ap (min (a .n)) (sym (block-long s))) ∙ take-min (a .n) (a .block) in
-    let m : SendMeets (p .send-at .result) (now (a .out)) (p .send-at .last .1 .1 .1 .1 .1 .0) to =
-    subst (λ (l : List ℕ). SendMeets (p .send-at .result) (now (a .out)) (p .send-at .last .1 .1 .1 .1 .1 .0) (movesAt (a .steps) (a .checked) (a .crc) l)) same (p .send-at .ensures) in
-    acts (does (moved to) (to .bytes) tt) (send-acts (a .steps) (a .checked) (a .crc) w (length (now (a .out))) (k .before .if1 .left))
-    (ap (λ (r : Moved). given r) (moved-is (p .send-at .result) (now (a .out)) (p .send-at .last .1 .1 .1 .1 .1 .0) to m)) refl (m .leaves)
+    let m : SendMeets (p .send-at .result) (now (a .out)) (p .send-at .last .1 .1 .1 .1 .0) to =
+    subst (λ (l : List ℕ). SendMeets (p .send-at .result) (now (a .out)) (p .send-at .last .1 .1 .1 .1 .0) (movesAt (a .steps) (a .crc) l)) same (p .send-at .ensures) in
+    acts (does (moved to) (to .bytes) tt) (send-acts (a .steps) (a .crc) w (length (now (a .out))) (k .before .if1 .left))
+    (ap (λ (r : Moved). given r) (moved-is (p .send-at .result) (now (a .out)) (p .send-at .last .1 .1 .1 .1 .0) to m)) refl (m .leaves)
 
 pub send-spec : {M : Type 1} → statement M
 send-spec =

@@ -15,7 +15,7 @@ unfolding movesAt
 returns c =
     let p = c .before .before in
     let a = p .before .before .before .before .before .args in
-    at-steps (p .write-on .result) (now (a .out)) (p .write-on .last .1 .1 .1 .1 .0) (a .checked) (a .crc) (take (a .n) (a .block))
+    at-steps (p .write-on .result) (now (a .out)) (p .write-on .last .1 .1 .1 .0) (a .crc) (take (a .n) (a .block))
     (p .before .before .enum-told .given .1) (p .write-on .ensures)
 
 returns-2 : tie.Need-returns-2
@@ -23,11 +23,11 @@ unfolding movesAt
 returns-2 c =
     let p = c .before .before in
     let k = p .before .before in
-    let a = k .before .before .before .before .before .args in
-    at-steps (record { size = p .put .result; crc = a .crc; steps = Done }) (now (a .out)) (p .put .last .1 .1 .0) (a .checked) (a .crc) (take (a .n) (a .block))
-    (k .before .before .enum-told2 .given .1)
-    (meets (p .put .result) (a .crc) (a .crc) Done (take 2 (k .with-check .result)) (checkBytes (a .checked) (a .crc)) (now (a .out)) (p .put .last .1 .1 .0) (p .put .ensures)
-    (k .with-check .ensures ∙ k .before .shown .ensures) refl)
+    let a = k .before .before .before .before .args in
+    at-steps (record { size = p .put .result; crc = a .crc; steps = Done }) (now (a .out)) (p .put .last .1 .1 .0) (a .crc) (take (a .n) (a .block))
+    (k .before .enum-told2 .given .1)
+    (meets (p .put .result) (a .crc) (a .crc) Done (take 2 (k .with-check .result)) (checkBytes (a .crc)) (now (a .out)) (p .put .last .1 .1 .0) (p .put .ensures)
+    (k .with-check .ensures) refl)
 
 returns-3 : tie.Need-returns-3
 unfolding movesAt
@@ -35,7 +35,7 @@ returns-3 c =
     let p = c .before .before in
     let z = p .before .before in
     let a = z .before .before .before .before .args in
-    at-steps (record { size = p .put2 .result; crc = a .crc; steps = Done }) (now (a .out)) (p .put2 .last .1 .1 .0) (a .checked) (a .crc) (take (a .n) (a .block))
+    at-steps (record { size = p .put2 .result; crc = a .crc; steps = Done }) (now (a .out)) (p .put2 .last .1 .1 .0) (a .crc) (take (a .n) (a .block))
     (z .before .enum-told3 .given .1)
     (meets (p .put2 .result) (a .crc) (a .crc) Done (take 1 (z .with-zero .result)) (0 ∷ []) (now (a .out)) (p .put2 .last .1 .1 .0) (p .put2 .ensures)
     (z .with-zero .ensures) refl)
@@ -44,7 +44,7 @@ returns-4 : tie.Need-returns-4
 unfolding movesAt
 returns-4 c =
     let a = c .before .before .before .args in
-    at-steps (record { size = 0; crc = a .crc; steps = Done }) (now (a .out)) (now (a .out)) (a .checked) (a .crc) (take (a .n) (a .block))
+    at-steps (record { size = 0; crc = a .crc; steps = Done }) (now (a .out)) (now (a .out)) (a .crc) (take (a .n) (a .block))
     (c .enum-told4 .given .1) (record { size = refl; crc = refl; steps = refl; leaves = refl })
 
 pub send-at-spec : {M : Type 1} → statement M
@@ -54,7 +54,6 @@ send-at-spec =
     (λ c. search needs)
     (λ c κs. search needs)
     (λ c. search needs)
-    (λ c κs. search needs)
     (λ c κs. search needs)
     (λ c κs. search needs)
     (λ c. search needs)

@@ -27,8 +27,8 @@ returns c =
     let image = take (a .length) (filled .result) in
     let size : length image ≡ a .length = sym (as-long (a .length) (a .fill) (filled .result) (filled .ensures) (s .pre)) in
     let short : length image ≤ longest = let most = s .pre in omega (arith, size) in
-    as-loaded _ _ _ (a .area) (a .checked) _ image _ _
-    (c .before .before .before .before .before .start-upload .ensures ∙ starts-fresh (a .area) (a .checked) image short)
+    as-loaded _ _ _ (a .area) _ image _ _
+    (c .before .before .before .before .before .start-upload .ensures ∙ starts-fresh (a .area) image short)
     (take-filled (a .length) (a .fill) (filled .result) (filled .ensures) (s .pre))
     (c .before .before .upload .ensures)
 

@@ -17,7 +17,7 @@ unfolding startTold number
 returns c =
     let a = c .before .before .before .before .before .before .args in
     let s = c .before .before .before .start .ensures in
-    let none = start-refused (now (a .image)) (now (a .out)) (a .budget) (startStep (a .area) (a .checked) (now (a .image))) tooLong []
+    let none = start-refused (now (a .image)) (now (a .out)) (a .budget) (startStep (a .area) (now (a .image))) tooLong []
     (sym (ap startTold (c .before .enum-told2 .given .1)) ∙ s .tells) in
     let told = c .number .ensures ∙ ap (λ (x : UploadStart). number (startTold x)) (c .before .enum-told2 .given .1) in
     record { tells = told ∙ sym (ap (λ (d : Drove). d .number) none); leaves = sym (ap (λ (d : Drove). d .out) none) }
@@ -29,7 +29,7 @@ returns-2 c =
     let s = c .before .before .before .before .before .before .start in
     let run = c .before .before .whole-on in
     subst (λ (d : Drove). DriveMeets (run .result) (run .last .1 .1 .0) d)
-    (start-given (now (a .image)) (now (a .out)) (a .budget) (startStep (a .area) (a .checked) (now (a .image))) (freshWhole (a .area) (a .checked) 0) (s .result .upload)
+    (start-given (now (a .image)) (now (a .out)) (a .budget) (startStep (a .area) (now (a .image))) (freshWhole (a .area) 0) (s .result .upload)
     (sym (ap startTold (c .before .before .before .before .enum-told .given .1)) ∙ s .ensures .tells) (s .ensures .next))
     (run .ensures)
 

@@ -30,8 +30,8 @@ returns c =
     let k = c .before .before .before .before .before in
     let a = k .before .before .before .before .before .args in
     let m = a .self in
-    let step = sendStep (m .steps) (m .checked) (m .crc) (held m) (length (now (a .out))) in
-    let new = k .send .last .1 .1 .1 .1 .1 .0 in
+    let step = sendStep (m .steps) (m .crc) (held m) (length (now (a .out))) in
+    let new = k .send .last .1 .1 .1 .1 .0 in
     handed (c .after-close .result) (refused tooShort []) m m (now (a .out)) new
     (ap (λ (r : CloseStepped). stepTold (r .step)) (c .after-close .ensures))
     (ap (λ (r : CloseStepped). r .next) (c .after-close .ensures))
@@ -45,8 +45,8 @@ returns-2 c =
     let k = v .before .before .before .before in
     let a = k .before .before .before .before .before .args in
     let m = a .self in
-    let step = sendStep (m .steps) (m .checked) (m .crc) (held m) (length (now (a .out))) in
-    let new = k .send .last .1 .1 .1 .1 .1 .0 in
+    let step = sendStep (m .steps) (m .crc) (held m) (length (now (a .out))) in
+    let new = k .send .last .1 .1 .1 .1 .0 in
     let to = v .sent .given .0 .0 in
     handed (c .after-close2 .result) (given (asks (m .steps) (m .area) (to .size))) (withMoved m (to .crc) (to .steps)) m (now (a .out)) new
     (ap (λ (r : CloseStepped). stepTold (r .step)) (c .after-close2 .ensures) ∙ c .before .before .asked .ensures)

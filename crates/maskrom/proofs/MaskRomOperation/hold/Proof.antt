@@ -20,7 +20,7 @@ returns c =
     let m = s .args .self in
     let ys = now (s .args .more) in
     c .with .ensures
-    ∙ ap₂ (withBlock m (m .taken + length ys)) (c .before .before .covered .ensures)
+    ∙ ap₂ (withBlock m (m .taken + length ys)) (c .before .before .update .ensures)
     (put-mid (m .block) (m .taken % 4096) ys (k .copy .last .1 .0) (block-long s) (s .pre .0) (k .copy .ensures .1))
 
 pub hold-spec : {M : Type 1} → statement M

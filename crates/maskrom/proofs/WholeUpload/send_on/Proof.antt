@@ -6,10 +6,10 @@ use mathlib.Core.List.{List, []}
 use borrow.Author.Needs.{needs}
 use denote.Ref.{now}
 use lib.ListN.{length}
+use Rattle.crc.specs.Check.{crcOver}
 use Rattle.promise.specs.Told.{Told, given, refused}
 use Rattle.maskrom_transfer.specs.declared.Moved.{Moved}
 use Rattle.maskrom_transfer.specs.declared.Sent.{Sent}
-use Rattle.maskrom_transfer.specs.Moves.{register}
 use Rattle.promise.specs.Does.{Does, does, Meets}
 use Rattle.maskrom_transfer.specs.Sending.{sentTold, sendStep}
 use Rattle.maskrom_transfer.proofs.Cases.{goes-on, passes-on}
@@ -32,14 +32,14 @@ sent-chunk : (k : tie.After-send)
     → let a = k .before .before .before .before .before .before .args in
     let u = a .self in
     let w = now (a .chunk) in
-    Meets (sentTold (k .send .result)) tt (now (a .out)) (k .send .last .1 .1 .1 .1 .1 .0) tt
-    (sendStep (u .steps) (u .checked) (register (u .checked) (u .crc) w) w (length (now (a .out))))
+    Meets (sentTold (k .send .result)) tt (now (a .out)) (k .send .last .1 .1 .1 .1 .0) tt
+    (sendStep (u .steps) (crcOver (u .crc) w) w (length (now (a .out))))
 sent-chunk k =
     let b = k .before .before in
     let a = b .before .before .before .before .args in
     let u = a .self in
-    subst (λ (step : Told (Does Moved Unit)). Meets (sentTold (k .send .result)) tt (now (a .out)) (k .send .last .1 .1 .1 .1 .1 .0) tt step)
-    (ap₂ (λ (x : ℕ) (l : List ℕ). sendStep (u .steps) (u .checked) x l (length (now (a .out)))) (b .before .covered .ensures) (b .block-of .ensures))
+    subst (λ (step : Told (Does Moved Unit)). Meets (sentTold (k .send .result)) tt (now (a .out)) (k .send .last .1 .1 .1 .1 .0) tt step)
+    (ap₂ (λ (x : ℕ) (l : List ℕ). sendStep (u .steps) x l (length (now (a .out)))) (b .before .update .ensures) (b .block-of .ensures))
     (k .send .ensures)
 
 returns : tie.Need-returns
@@ -49,8 +49,8 @@ returns c =
     let a = k .before .before .before .before .before .before .args in
     let u = a .self in
     let w = now (a .chunk) in
-    let step = sendStep (u .steps) (u .checked) (register (u .checked) (u .crc) w) w (length (now (a .out))) in
-    let new = k .send .last .1 .1 .1 .1 .1 .0 in
+    let step = sendStep (u .steps) (crcOver (u .crc) w) w (length (now (a .out))) in
+    let new = k .send .last .1 .1 .1 .1 .0 in
     handed (c .after-step .result) (refused tooShort []) u u w (now (a .out)) new
     (ap (λ (r : WholeStepped). stepTold (r .step)) (c .after-step .ensures))
     (ap (λ (r : WholeStepped). r .next) (c .after-step .ensures))
@@ -66,8 +66,8 @@ returns-2 c =
     let a = k .before .before .before .before .before .before .args in
     let u = a .self in
     let w = now (a .chunk) in
-    let step = sendStep (u .steps) (u .checked) (register (u .checked) (u .crc) w) w (length (now (a .out))) in
-    let new = k .send .last .1 .1 .1 .1 .1 .0 in
+    let step = sendStep (u .steps) (crcOver (u .crc) w) w (length (now (a .out))) in
+    let new = k .send .last .1 .1 .1 .1 .0 in
     let to = v .sent .given .0 .0 in
     handed (c .after-step2 .result) (given (asks (u .steps) (u .area) (to .size))) (sentOn u (length w) (to .crc) (to .steps)) u w (now (a .out)) new
     (ap (λ (r : WholeStepped). stepTold (r .step)) (c .after-step2 .ensures) ∙ c .before .before .asked .ensures)

@@ -7,8 +7,8 @@ use Rattle.promise.specs.Rules.{orRefuse}
 use Rattle.maskrom.specs.Answers.{longest, startTold}
 use Rattle.promise.specs.Does.{said, after}
 use Rattle.maskrom.specs.Whole.{startStep}
-use Rattle.maskrom.proofs.start_whole.Statement.{statement}
-use Rattle.maskrom.proofs.start_whole.Tie as tie
+use Rattle.maskrom.proofs.write_area.Statement.{statement}
+use Rattle.maskrom.proofs.write_area.Tie as tie
 
 returns : tie.Need-returns
 unfolding startStep orRefuse said after startTold
@@ -22,6 +22,6 @@ returns-2 c =
     let n = length (now (c .before .before .before .args .image)) in
     record { tells = rw (le-ltb longest n (c .before .if1 .left)); next = rw (le-ltb longest n (c .before .if1 .left)) (c .new-whole2 .ensures) }
 
-pub start-whole-spec : {M : Type 1} → statement M
-start-whole-spec =
+pub write-area-spec : {M : Type 1} → statement M
+write-area-spec =
     tie.close (tie.spec (λ c κs. search needs) returns (λ c. search needs) (λ c κs. search needs) returns-2)
