@@ -1,7 +1,6 @@
 -- The bytes that are lent, the operation or upload that is started, and a request taken to what is done for it.
 use Prim.Native.Nat.{ℕ, _+_, _-_, _*_, _/_, _%_, _≤_}
 use mathlib.Core.Path.{_≡_, refl, ap, sym, subst, _∙_}
-use mathlib.Core.Bool.{Bool}
 use mathlib.Core.List.{List, [], _∷_, _++_}
 use native.Mathlib.Omega.{arith}
 use borrow.Author.Tests.{le-ltb}
@@ -98,7 +97,6 @@ plain-carried tag (request.ResetDevice opcode) h k = refl
 plain-carried tag request.Storage h k = refl
 plain-carried tag (request.SwitchStorage index) h k = refl
 plain-carried tag (request.WriteArea area n fill) h k = absurd (miss (0 ∷ 1 ∷ 2 ∷ 3 ∷ 4 ∷ 5 ∷ 8 ∷ 9 ∷ 10 ∷ []) 11 tt k)
-plain-carried tag (request.WriteAreaNoCrc area n fill) h k = absurd (miss (0 ∷ 1 ∷ 2 ∷ 3 ∷ 4 ∷ 5 ∷ 8 ∷ 9 ∷ 10 ∷ []) 12 tt k)
 
 pub plain : (r : Dealt) (flash store : List ℕ) (tag : ℕ) (asked : Request) (op : UsbOperation) (h : Head)
     → OneOf (0 ∷ 1 ∷ 2 ∷ 3 ∷ 4 ∷ 5 ∷ 8 ∷ 9 ∷ 10 ∷ []) (tagOf requests.the-type asked) → op ≡ plainStart tag asked
@@ -119,17 +117,18 @@ asked-card card r flash store asked tag h e m =
     subst (λ (a : CardAnswer). DealMeets r flash store (dealAsked tag (cardTold a) h)) (sym e) m
 
 -- a block that asks for nothing is turned away by its number
-away-by : (card : CardAnswer) → OneOf (1 ∷ 2 ∷ 3 ∷ 4 ∷ 5 ∷ 6 ∷ []) (tagOf the-type card) → (tag : ℕ) (h : Head) → dealAsked tag (cardTold card) h ≡ away (number (cardTold card)) h
+away-by : (card : CardAnswer) → OneOf (1 ∷ 2 ∷ 3 ∷ 4 ∷ 5 ∷ 6 ∷ 7 ∷ []) (tagOf the-type card) → (tag : ℕ) (h : Head) → dealAsked tag (cardTold card) h ≡ away (number (cardTold card)) h
 unfolding dealAsked cardTold number
-away-by (answer.Asks asked) k tag h = absurd (miss (1 ∷ 2 ∷ 3 ∷ 4 ∷ 5 ∷ 6 ∷ []) 0 tt k)
+away-by (answer.Asks asked) k tag h = absurd (miss (1 ∷ 2 ∷ 3 ∷ 4 ∷ 5 ∷ 6 ∷ 7 ∷ []) 0 tt k)
 away-by answer.Short k tag h = refl
 away-by answer.BadCheck k tag h = refl
+away-by answer.WithdrawnKind k tag h = refl
 away-by answer.UnknownKind k tag h = refl
 away-by answer.NotZero k tag h = refl
 away-by answer.TooLarge k tag h = refl
 away-by answer.UnknownReset k tag h = refl
 
-pub refused-card : (card : CardAnswer) → OneOf (1 ∷ 2 ∷ 3 ∷ 4 ∷ 5 ∷ 6 ∷ []) (tagOf the-type card) → (r : Dealt) (tag : ℕ) (device : MockState) (flash store : List ℕ) (n : ℕ)
+pub refused-card : (card : CardAnswer) → OneOf (1 ∷ 2 ∷ 3 ∷ 4 ∷ 5 ∷ 6 ∷ 7 ∷ []) (tagOf the-type card) → (r : Dealt) (tag : ℕ) (device : MockState) (flash store : List ℕ) (n : ℕ)
     → n ≡ number (cardTold card) → r ≡ turnedAway n device → DealMeets r flash store (dealAsked tag (cardTold card) (head device flash store))
 refused-card card k r tag device flash store n e m =
     subst (DealMeets r flash store) (sym (away-by card k tag (head device flash store)))

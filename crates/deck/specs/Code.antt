@@ -26,4 +26,3 @@ plainStart tag (request.SwitchStorage index) = fresh kind.Nothing (switchCommand
 plainStart tag (request.ReadLba first count) = fresh kind.Storage (storageCommand tag)
 plainStart tag (request.WriteLba first count fill) = fresh kind.Storage (storageCommand tag)
 plainStart tag (request.WriteArea area n fill) = fresh kind.Storage (storageCommand tag)
-plainStart tag (request.WriteAreaNoCrc area n fill) = fresh kind.Storage (storageCommand tag)

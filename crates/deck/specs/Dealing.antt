@@ -1,6 +1,5 @@
 -- What a block does to the head: each request by one whole run.
 use Prim.Native.Nat.{ℕ, _*_}
-use mathlib.Core.Bool.{Bool, true, false}
 use mathlib.Core.List.{List, []}
 use lib.ListN.{length, replicate}
 use Rattle.promise.specs.Told.{Told, given, refused}
@@ -31,10 +30,10 @@ loadOf upload image h =
     (loading.loadRun image (length (h .flash)) (loading.uploadBudget (upload .length)) (loading.loadState upload (h .device) (h .store)))
     (h .flash)
 
-abbrev pub load : ℕ → Bool → List ℕ → Head → Deal
+abbrev pub load : ℕ → List ℕ → Head → Deal
 load area image h = loadOf (freshWhole area (length image)) image h
 
--- "1 chip info, .. 13 upload without check"; "the fill byte of written data and images"; sectors are read into zeros
+-- "1 chip info, .. 12 upload"; "the fill byte of written data and images"; sectors are read into zeros
 unfoldable pub carryOut : ℕ → Request → Head → Deal
 carryOut tag request.ChipInfo h = operate (fresh kind.ChipInfo (chipInfoCommand tag)) [] h
 carryOut tag request.FlashId h = operate (fresh kind.FlashId (flashIdCommand tag)) [] h
@@ -49,8 +48,7 @@ carryOut tag (request.WriteLba first count fill) h =
 carryOut tag (request.ResetDevice opcode) h = operate (fresh kind.Nothing (resetCommand tag opcode)) [] h
 carryOut tag request.Storage h = operate (fresh kind.Storage (storageCommand tag)) [] h
 carryOut tag (request.SwitchStorage index) h = operate (fresh kind.Nothing (switchCommand tag index)) [] h
-carryOut tag (request.WriteArea area n fill) h = load area true (replicate n fill) h
-carryOut tag (request.WriteAreaNoCrc area n fill) h = load area false (replicate n fill) h
+carryOut tag (request.WriteArea area n fill) h = load area (replicate n fill) h
 
 unfoldable pub dealAsked : ℕ → Told Request → Head → Deal
 dealAsked tag (given request) h = carryOut tag request h

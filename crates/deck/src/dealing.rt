@@ -8,7 +8,6 @@ use deck_block::Request;
 use deck_block::read_card;
 use maskrom::WholeUpload;
 use maskrom::write_area;
-use maskrom::write_area_no_crc;
 use mock::device::MockState;
 use operation::starts::capability;
 use operation::starts::chip_info;
@@ -32,8 +31,6 @@ ghost use lib.ListN.{length, replicate};
 ghost use Rattle.protocol.specs.Commands.{readLbaCommand, writeLbaCommand};
 ghost use Rattle.operation_finish.specs.declared.Kind.the-variants as kind;
 ghost use Rattle.operation.specs.Record.{fresh};
-ghost use Rattle.promise.specs.Does.{after};
-ghost use Rattle.maskrom.specs.Whole.{freshWhole, startStep};
 ghost use Rattle.deck_block.specs.Reading.{Fits};
 ghost use Rattle.deck.specs.Deal.{head, DealMeets};
 ghost use Rattle.deck.specs.Dealing.{operate, load, loadOf, carryOut, dealBlock};
@@ -104,20 +101,8 @@ fn upload(
     loaded(run_whole_upload(upload, device, flash, store, image))
 }
 
-fn start_upload(checked: bool, area: u16, image: &[u8]) -> WholeUpload
-    ensures { λ r. ⌜ r ≡ after (freshWhole area checked 0) (startStep area checked (now (image .entry))) ⌝ }
-{
-    if checked {
-        let start = write_area(area, image);
-        return start.upload;
-    }
-    let start = write_area_no_crc(area, image);
-    start.upload
-}
-
 // An image of one byte over and over.
 fn upload_filled(
-    checked: bool,
     area: u16,
     length: u32,
     fill: u8,
@@ -126,11 +111,12 @@ fn upload_filled(
     store: &mut [u8],
 ) -> Dealt
     requires { ⌜ length ≤ 8192 ⌝ }
-    ensures { λ r. ⌜ DealMeets r (now (flash .entry)) (now (store .exit)) (load area checked (replicate length fill) (head device (now (flash .entry)) (now (store .entry)))) ⌝ }
+    ensures { λ r. ⌜ DealMeets r (now (flash .entry)) (now (store .exit)) (load area (replicate length fill) (head device (now (flash .entry)) (now (store .entry)))) ⌝ }
 {
     let n = length as usize;
     let image = filled(fill);
-    let fresh = start_upload(checked, area, &image[..n]);
+    let start = write_area(area, &image[..n]);
+    let fresh = start.upload;
     upload(fresh, device, flash, store, &image[..n])
 }
 
@@ -170,10 +156,7 @@ fn deal_request(
             return write_sectors(tag, first, count, fill, device, flash, store);
         }
         Request::WriteArea(area, length, fill) => {
-            return upload_filled(true, area, length, fill, device, flash, store);
-        }
-        Request::WriteAreaNoCrc(area, length, fill) => {
-            return upload_filled(false, area, length, fill, device, flash, store);
+            return upload_filled(area, length, fill, device, flash, store);
         }
         _ => return command(plain_start(tag, request), device, flash, store),
     }

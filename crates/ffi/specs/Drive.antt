@@ -1,7 +1,6 @@
 -- An upload driven to its end over one lent output: each transfer is put over the one before it.
 use Prim.Native.Nat.{ℕ, zero, suc}
 use mathlib.Core.Path.{_≡_}
-use mathlib.Core.Bool.{Bool}
 use mathlib.Core.List.{List}
 use lib.Dec.{eqb}
 use lib.ListN.{length, take, drop}
@@ -65,7 +64,7 @@ onStart (given d) image out budget = stepDrive (stepOf image) budget (d .becomes
 onStart (refused n vs) image out budget = drove n out
 
 -- from the start to the finish
-abbrev pub wholeDrive : ℕ → Bool → List ℕ → List ℕ → ℕ → Drove
+abbrev pub wholeDrive : ℕ → List ℕ → List ℕ → ℕ → Drove
 wholeDrive area image out budget = onStart (startStep area image) image out budget
 
 -- parts
@@ -100,7 +99,7 @@ onHanded zero m out = stepDrive closeStep mostClosing m out
 onHanded (suc n) m out = drove (suc n) out
 
 -- from the start to the finish, in parts of `size` bytes
-unfoldable pub partDrive : ℕ → Bool → ℕ → List ℕ → List ℕ → ℕ → Drove
+unfoldable pub partDrive : ℕ → ℕ → List ℕ → List ℕ → ℕ → Drove
 partDrive area size image out budget =
     let run = runs (partTurn size) budget (handing (fresh area) image out) in
     onHanded (number (endTold (run .end))) (run .state .operation) (run .state .out)

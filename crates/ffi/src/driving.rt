@@ -2,15 +2,11 @@
 use maskrom::MaskRomOperation;
 use maskrom::PartStep;
 use maskrom::UploadStep;
-use maskrom::WholeStart;
 use maskrom::WholeUpload;
-use maskrom::write_area;
-use maskrom::write_area_no_crc;
 ghost use mathlib.Core.Path.{_≡_};
 ghost use Prim.Native.Nat.{min};
 ghost use Rattle.maskrom.specs.Answers.{stepTold, partTold};
-ghost use Rattle.maskrom.specs.PartWise.{fresh, closeStep};
-ghost use Rattle.maskrom.specs.Whole.{StartMeets};
+ghost use Rattle.maskrom.specs.PartWise.{closeStep};
 ghost use Rattle.promise.specs.Run.{runs};
 ghost use Rattle.ffi.specs.Drive.{DriveMeets, stepDrive, stepOf, mostClosing, handing, partTurn};
 ghost use Rattle.ffi.specs.Code.{paceOf, partPace, HandsOver};
@@ -55,24 +51,6 @@ fn least(a: usize, b: usize) -> usize
     ensures { λ r. ⌜ r ≡ min a b ⌝ }
 {
     if a < b { a } else { b }
-}
-
-pub(crate) fn start(area: u16, checked: bool, image: &[u8]) -> WholeStart
-    ensures { λ r. ⌜ StartMeets r area checked (now (image .entry)) ⌝ }
-{
-    if checked {
-        return write_area(area, image);
-    }
-    write_area_no_crc(area, image)
-}
-
-pub(crate) fn fresh(area: u16, checked: bool) -> MaskRomOperation
-    ensures { λ r. ⌜ r ≡ fresh area checked ⌝ }
-{
-    if checked {
-        return MaskRomOperation::new(area);
-    }
-    MaskRomOperation::new_no_crc(area)
 }
 
 // Step after step, until the finish, a refusal or the end of the budget.

@@ -34,31 +34,24 @@ pub extern "C" fn otterarch_crc_update_by_table(crc: u16, bytes: &[u8]) -> u16
 
 // A whole upload to its finish, each transfer at the front of `out`: 0 or the number of the refusal, 28 past `budget` steps.
 #[no_mangle]
-pub extern "C" fn otterarch_upload_whole(
-    area: u16,
-    checked: bool,
-    image: &[u8],
-    out: &mut [u8],
-    budget: u32,
-) -> u8
-    ensures { λ r. ⌜ DriveMeets r (now (out .exit)) (wholeDrive area checked (now (image .entry)) (now (out .entry)) budget) ⌝ }
+pub extern "C" fn otterarch_upload_whole(area: u16, image: &[u8], out: &mut [u8], budget: u32) -> u8
+    ensures { λ r. ⌜ DriveMeets r (now (out .exit)) (wholeDrive area (now (image .entry)) (now (out .entry)) budget) ⌝ }
 {
-    crate::uploads::whole(area, checked, image, out, budget)
+    crate::uploads::whole(area, image, out, budget)
 }
 
 // A whole upload in parts of `size` bytes, handed over by `budget` calls at most.
 #[no_mangle]
 pub extern "C" fn otterarch_upload_parts(
     area: u16,
-    checked: bool,
     size: usize,
     image: &[u8],
     out: &mut [u8],
     budget: u64,
 ) -> u8
-    ensures { λ r. ⌜ DriveMeets r (now (out .exit)) (partDrive area checked size (now (image .entry)) (now (out .entry)) budget) ⌝ }
+    ensures { λ r. ⌜ DriveMeets r (now (out .exit)) (partDrive area size (now (image .entry)) (now (out .entry)) budget) ⌝ }
 {
-    crate::uploads::parts(area, checked, size, image, out, budget)
+    crate::uploads::parts(area, size, image, out, budget)
 }
 
 // The command that reads `sectors` from sector `first`, into the first 24 bytes of `out`: 0 or 20.

@@ -1,7 +1,6 @@
 -- Programs that the contracts rule out, each at a named input: no proof of any kind can exist for them.
 use Prim.Native.Nat.{ℕ, suc, _≤_}
 use mathlib.Core.Path.{_≡_, refl, ap, sym, _∙_}
-use mathlib.Core.Bool.{false}
 use mathlib.Core.List.{List, [], _∷_}
 use native.Mathlib.Omega.{arith}
 use lib.ListN.{length}
@@ -38,10 +37,10 @@ abbrev sentAll : WholeUpload
 sentAll = record { area = 0; length = 0; taken = 0; crc = 0; steps = Done }
 
 abbrev ofNothing : WholeUpload
-ofNothing = freshWhole 0 false 0
+ofNothing = freshWhole 0 0
 
 abbrev ofOne : WholeUpload
-ofOne = freshWhole 0 false 1
+ofOne = freshWhole 0 1
 
 -- a transfer leaves the state with the run, whether it goes on or not
 state-onward : (t : Told Unit) (s : LoadState) → stateFor (onward t s) ≡ s

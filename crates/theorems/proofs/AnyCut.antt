@@ -34,7 +34,7 @@ start-due area image =
     (ap (λ (k : ℕ). image ++ ending (crcOver start image) k) (zero-add (length image)) ∙ sym (upload-ending image))
 
 pub fresh-open : (area : ℕ) → Open (fresh area)
-fresh-open area block-long = length-replicate {A = ℕ} 4096 0 }
+fresh-open area = record { writes-on = refl; block-long = length-replicate {A = ℕ} 4096 0 }
 
 -- DEMAND 3, for one caller, who cuts an image of at most 4,294,967,295 bytes into parts in any way, empty ones too: he hands them over in order to a fresh
 -- upload, with an output of a block at least, hands over again what was not taken, then closes and steps to the finish. No call is refused, the driving

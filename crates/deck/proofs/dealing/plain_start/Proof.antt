@@ -16,21 +16,20 @@ use Rattle.deck.proofs.dealing.plain_start.Statement.{statement}
 use Rattle.deck.proofs.dealing.plain_start.Tie as tie
 
 -- what the `_` arm knows is that it is none of the eight
-others : (tag : ℕ) (asked : Request) → OneOf (6 ∷ 7 ∷ 9 ∷ 11 ∷ 12 ∷ []) (tagOf the-type asked) → fresh kind.Storage (storageCommand tag) ≡ plainStart tag asked
+others : (tag : ℕ) (asked : Request) → OneOf (6 ∷ 7 ∷ 9 ∷ 11 ∷ []) (tagOf the-type asked) → fresh kind.Storage (storageCommand tag) ≡ plainStart tag asked
 unfolding plainStart
-others tag request.ChipInfo k = absurd (miss (6 ∷ 7 ∷ 9 ∷ 11 ∷ 12 ∷ []) 0 tt k)
-others tag request.FlashId k = absurd (miss (6 ∷ 7 ∷ 9 ∷ 11 ∷ 12 ∷ []) 1 tt k)
-others tag request.FlashInfo k = absurd (miss (6 ∷ 7 ∷ 9 ∷ 11 ∷ 12 ∷ []) 2 tt k)
-others tag request.Capability k = absurd (miss (6 ∷ 7 ∷ 9 ∷ 11 ∷ 12 ∷ []) 3 tt k)
-others tag (request.EraseLba first count) k = absurd (miss (6 ∷ 7 ∷ 9 ∷ 11 ∷ 12 ∷ []) 4 tt k)
-others tag (request.EraseForce first count) k = absurd (miss (6 ∷ 7 ∷ 9 ∷ 11 ∷ 12 ∷ []) 5 tt k)
+others tag request.ChipInfo k = absurd (miss (6 ∷ 7 ∷ 9 ∷ 11 ∷ []) 0 tt k)
+others tag request.FlashId k = absurd (miss (6 ∷ 7 ∷ 9 ∷ 11 ∷ []) 1 tt k)
+others tag request.FlashInfo k = absurd (miss (6 ∷ 7 ∷ 9 ∷ 11 ∷ []) 2 tt k)
+others tag request.Capability k = absurd (miss (6 ∷ 7 ∷ 9 ∷ 11 ∷ []) 3 tt k)
+others tag (request.EraseLba first count) k = absurd (miss (6 ∷ 7 ∷ 9 ∷ 11 ∷ []) 4 tt k)
+others tag (request.EraseForce first count) k = absurd (miss (6 ∷ 7 ∷ 9 ∷ 11 ∷ []) 5 tt k)
 others tag (request.ReadLba first count) k = refl
 others tag (request.WriteLba first count fill) k = refl
-others tag (request.ResetDevice opcode) k = absurd (miss (6 ∷ 7 ∷ 9 ∷ 11 ∷ 12 ∷ []) 8 tt k)
+others tag (request.ResetDevice opcode) k = absurd (miss (6 ∷ 7 ∷ 9 ∷ 11 ∷ []) 8 tt k)
 others tag request.Storage k = refl
-others tag (request.SwitchStorage index) k = absurd (miss (6 ∷ 7 ∷ 9 ∷ 11 ∷ 12 ∷ []) 10 tt k)
+others tag (request.SwitchStorage index) k = absurd (miss (6 ∷ 7 ∷ 9 ∷ 11 ∷ []) 10 tt k)
 others tag (request.WriteArea area n fill) k = refl
-others tag (request.WriteAreaNoCrc area n fill) k = refl
 
 pub plain-start-spec : {M : Type 1} → statement M
 unfolding plainStart

@@ -9,26 +9,26 @@ use Rattle.deck.proofs.DealingLaws.{take-filled, as-long, starts-fresh,
 use Rattle.deck.proofs.dealing.upload_filled.Statement.{statement}
 use Rattle.deck.proofs.dealing.upload_filled.Tie as tie
 
-long : tie.Need-slice-aggregate-start-upload
+long : tie.Need-slice-aggregate-write-area
 long c =
     let filled = c .before .filled in
     as-long _ (c .before .before .before .before .args .fill) (filled .result) (filled .ensures) (c .before .before .before .before .pre)
 
 long-2 : tie.Need-slice-aggregate-upload
 long-2 c =
-    let filled = c .before .before .before .before .filled in
-    as-long _ (c .before .before .before .before .before .before .before .args .fill) (filled .result) (filled .ensures) (c .before .before .before .before .before .before .before .pre)
+    let filled = c .before .before .before .before .before .filled in
+    as-long _ (c .before .before .before .before .before .before .before .before .args .fill) (filled .result) (filled .ensures) (c .before .before .before .before .before .before .before .before .pre)
 
 returns : tie.Need-returns
 returns c =
-    let s = c .before .before .before .before .before .before .before .before .before .before in
+    let s = c .before .before .before .before .before .before .before .before .before .before .before in
     let a = s .args in
-    let filled = c .before .before .before .before .before .before .before .filled in
+    let filled = c .before .before .before .before .before .before .before .before .filled in
     let image = take (a .length) (filled .result) in
     let size : length image ≡ a .length = sym (as-long (a .length) (a .fill) (filled .result) (filled .ensures) (s .pre)) in
     let short : length image ≤ longest = let most = s .pre in omega (arith, size) in
     as-loaded _ _ _ (a .area) _ image _ _
-    (c .before .before .before .before .before .start-upload .ensures ∙ starts-fresh (a .area) image short)
+    (c .before .before .before .before .before .before .write-area .ensures .next ∙ starts-fresh (a .area) image short)
     (take-filled (a .length) (a .fill) (filled .result) (filled .ensures) (s .pre))
     (c .before .before .upload .ensures)
 

@@ -16,7 +16,7 @@ returns : tie.Need-returns
 unfolding startTold number
 returns c =
     let a = c .before .before .before .before .before .before .args in
-    let s = c .before .before .before .start .ensures in
+    let s = c .before .before .before .write-area .ensures in
     let none = start-refused (now (a .image)) (now (a .out)) (a .budget) (startStep (a .area) (now (a .image))) tooLong []
     (sym (ap startTold (c .before .enum-told2 .given .1)) ∙ s .tells) in
     let told = c .number .ensures ∙ ap (λ (x : UploadStart). number (startTold x)) (c .before .enum-told2 .given .1) in
@@ -26,7 +26,7 @@ returns-2 : tie.Need-returns-2
 unfolding startTold
 returns-2 c =
     let a = c .before .before .before .before .before .before .before .before .before .args in
-    let s = c .before .before .before .before .before .before .start in
+    let s = c .before .before .before .before .before .before .write-area in
     let run = c .before .before .whole-on in
     subst (λ (d : Drove). DriveMeets (run .result) (run .last .1 .1 .0) d)
     (start-given (now (a .image)) (now (a .out)) (a .budget) (startStep (a .area) (now (a .image))) (freshWhole (a .area) 0) (s .result .upload)
