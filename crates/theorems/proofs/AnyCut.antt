@@ -1,7 +1,6 @@
 -- What the upload is for: any cut of any image gives the same transfers as the whole image, and they are the upload's bytes.
 use Prim.Native.Nat.{ℕ, _+_, _/_, _%_, _<_, _≤_}
 use mathlib.Core.Path.{_≡_, refl, ap, sym, _∙_}
-use mathlib.Core.Bool.{Bool}
 use mathlib.Core.List.{List, [], _∷_, _++_, map, flatten}
 use native.Mathlib.Nat.{zero-add}
 use native.Mathlib.Omega.{arith}
@@ -10,18 +9,19 @@ use native.Mathlib.Decide.{ℕ-discrete}
 use borrow.Author.Tests.{le-ltb, ne-eqb}
 use Rattle.promise.specs.Rules.{orRefuse}
 use Rattle.promise.specs.Told.{given}
-use Rattle.crc.specs.Check.{start, crcOver}
+use Rattle.promise.proofs.Order.{length-high-first}
+use Rattle.crc.specs.Check.{start, check, crcOver}
 use Rattle.maskrom.specs.declared.WholeUpload.{WholeUpload}
-use Rattle.maskrom_transfer.specs.Moves.{blockSize}
+use Rattle.maskrom_transfer.specs.Moves.{blockSize, checkBytes}
 use Rattle.maskrom.specs.Answers.{longest}
-use Rattle.maskrom.specs.Made.{pad}
-use Rattle.theorems.specs.UploadBytes.{lastZero, uploadBytes, cut, total}
+use Rattle.maskrom.specs.Made.{pad, padded}
+use Rattle.theorems.specs.UploadBytes.{lastZero, framed, uploadBytes, cut, total}
 use Rattle.promise.specs.Does.{does, said, after}
 use Rattle.maskrom.specs.PartWise.{fresh}
 use Rattle.maskrom.specs.Whole.{freshWhole, startStep, wholeStep}
 use Rattle.theorems.specs.PartDriver.{Transfer, transfer, ended, unending, onStart, driveParts, driveWhole, transfersOf}
 use Rattle.theorems.proofs.CutIntoTransfers.{cut-many, cut-sizes, cut-joins}
-use Rattle.theorems.proofs.BehindTheImage.{ending, upload-ending, length-ending}
+use Rattle.theorems.proofs.BehindTheImage.{ending, upload-ending}
 use Rattle.theorems.proofs.StepsToFinish.{Sends, enough, needed}
 use Rattle.theorems.proofs.WholeSends.{image-sends}
 use Rattle.theorems.proofs.PartsSend.{Open, left, due, parts-end}
@@ -49,12 +49,19 @@ any-cut area image parts out e l h =
     ∙ ap (λ (l : List ℕ). ended (due (fresh area) l)) e
     ∙ ap ended (start-due area image)
 
+-- whichever two bytes stand in the place of the check
+pub framed-length : (two image : List ℕ) → length two ≡ 2 → length (framed two image) ≡ total (length image)
+unfolding framed padded total
+framed-length two image e =
+    let n = length image in
+    let all = length-append (image ++ pad n) (two ++ lastZero n) in
+    let body = length-append image (pad n) in
+    let rest = length-append two (lastZero n) in
+    omega arith
+
 pub upload-length : (image : List ℕ) → length (uploadBytes image) ≡ total (length image)
-unfolding total
-upload-length image =
-    ap length (upload-ending image)
-    ∙ length-append image (ending (crcOver start image) (length image))
-    ∙ ap (λ (k : ℕ). length image + k) (length-ending (crcOver start image) (length image))
+unfolding uploadBytes
+upload-length image = framed-length (checkBytes (check (padded image))) image (length-high-first 2 (check (padded image)))
 
 -- "floor(T/4,096)+1 transfers"
 pub how-many : (area : ℕ) (image : List ℕ) → length (transfersOf area image) ≡ total (length image) / blockSize + 1
@@ -101,7 +108,7 @@ pub same-list : (area : ℕ) (image : List ℕ) (parts : List (List ℕ)) (out o
     → driveParts area parts out ≡ driveWhole (total (length image) / blockSize + 2) area image out′
 same-list area image parts out out′ e l h h′ = any-cut area image parts out e l h ∙ sym (whole-image area image out′ l h′)
 
-bytes-of : (area : ℕ) (ls : List (List ℕ)) → map (λ (t : Transfer). t .bytes) (map (transfer area) ls) ≡ ls
+pub bytes-of : (area : ℕ) (ls : List (List ℕ)) → map (λ (t : Transfer). t .bytes) (map (transfer area) ls) ≡ ls
 bytes-of area [] = refl
 bytes-of area (l ∷ ls) = ap (λ (r : List (List ℕ)). l ∷ r) (bytes-of area ls)
 

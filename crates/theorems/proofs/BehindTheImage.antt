@@ -8,22 +8,15 @@ use lib.ListN.{length, length-append}
 use lib.Dec.{eqb}
 use borrow.Author.Tests.{ne-eqb}
 use Rattle.promise.specs.Rules.{pick}
-use Rattle.promise.specs.Bytes.{highFirst}
+use Rattle.promise.proofs.Order.{length-high-first}
 use Rattle.crc.specs.Check.{start, check, crcOver}
 use Rattle.crc.proofs.Laws.{over-append, over-empty}
 use Rattle.maskrom_transfer.specs.Moves.{checkBytes}
-use Rattle.maskrom_transfer.proofs.Cases.{length-check}
-use Rattle.maskrom.specs.Made.{pad}
-use Rattle.theorems.specs.UploadBytes.{lastZero, uploadBytes}
+use Rattle.maskrom.specs.Made.{pad, padded}
+use Rattle.theorems.specs.UploadBytes.{lastZero, framed, uploadBytes}
 
-unfoldable pub ending : Bool → ℕ → ℕ → List ℕ
+unfoldable pub ending : ℕ → ℕ → List ℕ
 ending crc n = pad n ++ (checkBytes (crcOver crc (pad n)) ++ lastZero n)
-
-same-check : (image p : List ℕ)
-    → checkBytes (check (image ++ p)) ≡ checkBytes (crcOver (crcOver start image) p)
-unfolding checkBytes crcOver
-same-check true image p = ap (highFirst 2) (over-append start image p)
-same-check false image p = refl
 
 -- what is left of the image may be sent in two
 pub regroup : (crc n : ℕ) (xs ys : List ℕ)
@@ -34,11 +27,11 @@ regroup crc n xs ys =
 -- the upload is the image and what follows it
 pub upload-ending : (image : List ℕ)
     → uploadBytes image ≡ image ++ ending (crcOver start image) (length image)
-unfolding uploadBytes ending
+unfolding uploadBytes framed padded ending
 upload-ending image =
     let p = pad (length image) in
     append-assoc image p (checkBytes (check (image ++ p)) ++ lastZero (length image))
-    ∙ ap (λ (l : List ℕ). image ++ (p ++ (l ++ lastZero (length image)))) (same-check image p)
+    ∙ ap (λ (l : List ℕ). image ++ (p ++ (l ++ lastZero (length image)))) (ap checkBytes (over-append start image p))
 
 -- only the length mod 4,096 counts
 pub ending-same : (crc n k : ℕ) → n % 4096 ≡ k % 4096 → ending crc n ≡ ending crc k
@@ -66,7 +59,7 @@ unfolding ending
 length-ending crc n =
     let c = checkBytes (crcOver crc (pad n)) in
     length-append (pad n) (c ++ lastZero n)
-    ∙ ap (λ (k : ℕ). length (pad n) + k) (length-append c (lastZero n) ∙ ap (λ (k : ℕ). k + length (lastZero n)) (length-check (crcOver crc (pad n))))
+    ∙ ap (λ (k : ℕ). length (pad n) + k) (length-append c (lastZero n) ∙ ap (λ (k : ℕ). k + length (lastZero n)) (length-high-first 2 (crcOver crc (pad n))))
 
 pick-few : (b : Bool) → length {A = ℕ} (pick b (0 ∷ []) []) ≤ 1
 pick-few true = omega arith

@@ -28,5 +28,4 @@ module _ (P : Deal → Type 0) (h : Head) (operated : (k : Kind) (c : CommandBlo
   by-request tag (request.ResetDevice opcode) = operated kind.Nothing (resetCommand tag opcode) []
   by-request tag request.Storage = operated kind.Storage (storageCommand tag) []
   by-request tag (request.SwitchStorage index) = operated kind.Nothing (switchCommand tag index) []
-  by-request tag (request.WriteArea area n fill) = loaded area true (replicate n fill)
-  by-request tag (request.WriteAreaNoCrc area n fill) = loaded area false (replicate n fill)
+  by-request tag (request.WriteArea area n fill) = loaded area (replicate n fill)

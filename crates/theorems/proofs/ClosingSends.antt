@@ -16,7 +16,8 @@ use Rattle.theorems.specs.UploadBytes.{cut}
 use Rattle.promise.specs.Does.{Does, does}
 use Rattle.maskrom.specs.Answers.{control, Asks, writes}
 use Rattle.maskrom.specs.PartWise.{held, asks, withMoved, closeStep}
-use Rattle.maskrom_transfer.proofs.Cases.{length-check, writing-pad, writing-dummy, writing-last}
+use Rattle.promise.proofs.Order.{length-high-first}
+use Rattle.maskrom_transfer.proofs.Cases.{writing-pad, writing-dummy, writing-last}
 use Rattle.maskrom.proofs.Cases.{close-acts}
 use Rattle.theorems.specs.PartDriver.{transfer}
 use Rattle.theorems.proofs.CutIntoTransfers.{cut-block, cut-short}
@@ -30,7 +31,7 @@ module _ (area : ℕ) (crc : ℕ) (w : List ℕ) where
       ≡ transfer area (w ++ (0 ∷ [])) ∷ transfer area (checkBytes (crcOver crc (0 ∷ []))) ∷ []
   tail-pad e =
       let k = checkBytes (crcOver crc (0 ∷ [])) in
-      let short : length k < 4096 = omega (arith, length-check (crcOver crc (0 ∷ []))) in
+      let short : length k < 4096 = omega (arith, length-high-first 2 (crcOver crc (0 ∷ []))) in
       let full : length (w ++ (0 ∷ [])) ≡ 4096 = simp length-append (omega arith) in
       ap (λ (l : List ℕ). map (transfer area) (cut l))
       (ap (λ (l : List ℕ). w ++ l) (ending-pad crc (length w) (omega arith)) ∙ sym (append-assoc w (0 ∷ []) k))
@@ -41,7 +42,7 @@ module _ (area : ℕ) (crc : ℕ) (w : List ℕ) where
       ≡ transfer area (w ++ checkBytes crc) ∷ transfer area (0 ∷ []) ∷ []
   tail-dummy e =
       let k = checkBytes crc in
-      let full : length (w ++ k) ≡ 4096 = simp length-append (omega (arith, length-check crc)) in
+      let full : length (w ++ k) ≡ 4096 = simp length-append (omega (arith, length-high-first 2 crc)) in
       let z : List ℕ = 0 ∷ [] in
       let short : length z < 4096 = omega arith in
       ap (λ (l : List ℕ). map (transfer area) (cut l))
@@ -52,7 +53,7 @@ module _ (area : ℕ) (crc : ℕ) (w : List ℕ) where
       → map (transfer area) (cut (w ++ ending crc (length w))) ≡ transfer area (w ++ checkBytes crc) ∷ []
   tail-last h =
       let k = checkBytes crc in
-      let short : length (w ++ k) < 4096 = simp length-append (omega (arith, length-check crc)) in
+      let short : length (w ++ k) < 4096 = simp length-append (omega (arith, length-high-first 2 crc)) in
       ap (λ (l : List ℕ). map (transfer area) (cut (w ++ l))) (ending-last crc (length w) (omega arith))
       ∙ ap (map (transfer area)) (cut-short (w ++ k) short)
 
@@ -66,11 +67,11 @@ module _ {R : Type 0} (step : R → ℕ → Told (Does Asks R)) (area : ℕ) (cr
   ends-by : Dec (length w < 4094) → Dec (length w ≡ 4094) → length w < 4096 → Sends step r (map (transfer area) (cut (w ++ ending crc (length w))))
   ends-by (yes h) d n =
       let bs = w ++ checkBytes crc in
-      let b : length bs ≤ 4096 = simp length-append (omega (arith, length-check crc)) in
+      let b : length bs ≤ 4096 = simp length-append (omega (arith, length-high-first 2 crc)) in
       rw (tail-last area crc w h) (sends r (at crc Done) area bs [] b (first (moves bs crc Done) (writing-last crc w h)) (done crc))
   ends-by (no h) (yes e) n =
       let bs = w ++ checkBytes crc in
-      let b : length bs ≤ 4096 = simp length-append (omega (arith, length-check crc)) in
+      let b : length bs ≤ 4096 = simp length-append (omega (arith, length-high-first 2 crc)) in
       rw (tail-dummy area crc w e)
       (sends r (at crc Dummy) area bs (transfer area (0 ∷ []) ∷ []) b (first (moves bs crc Dummy) (writing-dummy crc w e)) (dummy crc))
   ends-by (no h) (no e) n =
@@ -108,7 +109,7 @@ unfolding asks movesAt
 close-check m e =
     let next = withMoved m (m .crc) Done in
     let k = checkBytes (m .crc) in
-    sends m next (m .area) k [] (omega (arith, length-check (m .crc))) (close-goes m Check (moves k (m .crc) Done) e refl) (close-done next refl)
+    sends m next (m .area) k [] (omega (arith, length-high-first 2 (m .crc))) (close-goes m Check (moves k (m .crc) Done) e refl) (close-done next refl)
 
 pub close-sends : (m : MaskRomOperation) → m .steps ≡ Writing → length (held m) < 4096
     → Sends closeStep m (map (transfer (m .area)) (cut (held m ++ ending (m .crc) (length (held m)))))

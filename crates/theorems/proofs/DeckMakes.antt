@@ -81,7 +81,6 @@ InBytes (request.ResetDevice opcode) = Unit
 InBytes request.Storage = Unit
 InBytes (request.SwitchStorage index) = storageNumber index < 256
 InBytes (request.WriteArea area n fill) = Unit
-InBytes (request.WriteAreaNoCrc area n fill) = Unit
 
 abbrev InBytesTold : Told Request → Type 0
 InBytesTold (given r) = InBytes r
@@ -99,7 +98,7 @@ asked-in-bytes tag block r bytes e =
     let f = fieldsOf block in
     subst InBytesTold (p .asks)
     (by-kind InBytesTold f (p .kind) tt tt tt tt tt tt (λ k. tt) (λ k. bytes 7) (reset-in-bytes (resetOf (f .byte))) tt (storage-byte (f .byte) (bytes 7))
-    (λ k. tt) (λ k. tt))
+    (λ k. tt))
 
 module _ (v : Variety) (config : MockDeviceConfig) (n : ℕ) where
   abbrev Keeps : Head → Type 0
@@ -138,8 +137,7 @@ module _ (v : Variety) (config : MockDeviceConfig) (n : ℕ) where
     carried tag (request.ResetDevice opcode) b = plain kind.Nothing (resetCommand tag opcode) (omega arith) (omega arith) (reset-byte opcode)
     carried tag request.Storage b = plain kind.Storage (storageCommand tag) (omega arith) (omega arith) (omega arith)
     carried tag (request.SwitchStorage index) b = plain kind.Nothing (switchCommand tag index) (omega arith) (omega arith) b
-    carried tag (request.WriteArea area k fill) b = by-load area true (replicate k fill)
-    carried tag (request.WriteAreaNoCrc area k fill) b = by-load area false (replicate k fill)
+    carried tag (request.WriteArea area k fill) b = by-load area (replicate k fill)
 
     dealt : (tag : ℕ) (block : List ℕ) (t : Told Request) → AreBytes block → readCard tag block ≡ t → Keeps (dealAsked tag t h .leaves)
     unfolding dealAsked

@@ -84,8 +84,7 @@ module _ (sectors : ℕ) (h : Head) (ready : Ready First sectors h) where
   carried tag (request.ResetDevice opcode) small named = operated kind.Nothing (resetCommand tag opcode) [] (ends.reset tag opcode small)
   carried tag request.Storage small named = operated kind.Storage (storageCommand tag) [] (ends.storage tag small)
   carried tag (request.SwitchStorage index) small named = operated kind.Nothing (switchCommand tag index) [] (ends.switch tag index small)
-  carried tag (request.WriteArea area n fill) small named = loaded area true (replicate n fill)
-  carried tag (request.WriteAreaNoCrc area n fill) small named = loaded area false (replicate n fill)
+  carried tag (request.WriteArea area n fill) small named = loaded area (replicate n fill)
 
   dealt : (tag : ℕ) (block : List ℕ) (t : Told Request) → tag < 256 ^ 4 → AreBytes block → readCard tag block ≡ t → BenchTold (dealAsked tag t h .told)
   unfolding dealAsked

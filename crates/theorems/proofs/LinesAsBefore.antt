@@ -168,7 +168,6 @@ module _ (h : Head) (then : AsThen (h .device)) where
   carry-as tag request.Storage = operate-as _ []
   carry-as tag (request.SwitchStorage index) = operate-as _ []
   carry-as tag (request.WriteArea area n fill) = refl
-  carry-as tag (request.WriteAreaNoCrc area n fill) = refl
 
   deal-as : (tag : ℕ) (told : Told Request) → dealAsked tag told h ≡ dealAskedBy before.usbTurn tag told h
   unfolding dealAsked dealAskedBy

@@ -1,6 +1,6 @@
 -- "28 may be resumed", for whoever calls `run_upload`: a run that ended in 28, and a run from what it handed back and left, are together the one run
 -- whose budget is the sum of theirs.
--- What the checks before the first step look at is kept by every turn, so that they pass again.
+-- What the before the first step look at is kept by every turn, so that they pass again.
 use Prim.Native.Nat.{ℕ, zero, suc, _+_}
 use mathlib.Core.Path.{_≡_, refl, ap, ap₂, sym, subst, _∙_}
 use mathlib.Core.Bool.{Bool}
@@ -12,7 +12,7 @@ use Rattle.promise.specs.Run.{Turned, ends, goes, tells, outOfSteps, Ran, count
 use Rattle.promise.proofs.Outcome.{Met, either-way}
 use Rattle.maskrom_transfer.specs.declared.Moved.{Moved}
 use Rattle.maskrom_transfer.specs.Moves.{blockSize}
-use Rattle.maskrom_transfer.specs.Moves as moves
+use Rattle.crc.specs.Check.{crcOver}
 use Rattle.maskrom_transfer.specs.Sending.{sendStep}
 use Rattle.maskrom.specs.declared.WholeUpload.{WholeUpload}
 use Rattle.maskrom.specs.Answers.{Asks, writes, finish}
@@ -34,7 +34,7 @@ use Rattle.theorems.proofs.UploadSteps.{whole-upload-ends}
 use Rattle.theorems.proofs.UploadRefusals.{append-long}
 use Rattle.theorems.proofs.CheckedRuns.{spent-met, checked-resumed, checked-whole}
 
--- what the checks look at is as it was
+-- what the look at is as it was
 record LoadKept (s t : LoadState) : Type 0 where
   long : length (t .store) ≡ length (s .store)
   stored : t .device .«store_length» ≡ s .device .«store_length»
@@ -59,7 +59,7 @@ unfolding wholeStep sendsOn becomes
 step-image u image =
     let w = chunk u image in
     either-way (λ (t : Told (Does Asks WholeUpload)). becomes u t .length ≡ u .length) refused _ (sendsOn u w blockSize) (λ n values. refl)
-    (λ met. sent-image u w (sendStep (u .steps) (moves.crcOver (u .crc) w) w blockSize))
+    (λ met. sent-image u w (sendStep (u .steps) (crcOver (u .crc) w) w blockSize))
 
 -- a control write keeps the store's length
 control-kept : (device : MockState) (type request value index : ℕ) (bytes store : List ℕ)
@@ -121,17 +121,17 @@ load-resumed image flash a b s e =
     checked-resumed (loadTurn image) (λ (t : LoadState). loadRules t flash (length image)) a b s
     (load-again s (runs (loadTurn image) a s .state) flash (length image) (loads-kept image a s)) e
 
-load-whole : (area : ℕ) (checks : Bool) (image : List ℕ) (flash a : ℕ) (device : MockState) (store : List ℕ)
-    → let s = loadState (freshWhole area checks (length image)) device store in
+load-whole : (area : ℕ) (image : List ℕ) (flash a : ℕ) (device : MockState) (store : List ℕ)
+    → let s = loadState (freshWhole area (length image)) device store in
     let budget = uploadBudget (length image) in
     loadRun image flash a s .end ≡ outOfSteps
     → loadRun image flash budget s ≡ counted (loadRun image flash a s .steps) (loadRun image flash budget (loadRun image flash a s .state))
 unfolding loadRun
-load-whole area checks image flash a device store e =
-    let s = loadState (freshWhole area checks (length image)) device store in
+load-whole area image flash a device store e =
+    let s = loadState (freshWhole area (length image)) device store in
     checked-whole (loadTurn image) (λ (t : LoadState). loadRules t flash (length image)) a (uploadBudget (length image)) s
     (load-again s (runs (loadTurn image) a s .state) flash (length image) (loads-kept image a s)) e
-    (whole-upload-ends area checks image flash device store)
+    (whole-upload-ends area image flash device store)
 
 -- the upload that was handed back has its old length
 load-length : (image : List ℕ) (flash a : ℕ) (s : LoadState) → loadRun image flash a s .end ≡ outOfSteps
@@ -172,15 +172,15 @@ module _ (first second whole : LoadRun) (device : MockState) (image store store�
   upload-resumed u b m n w = load-joins b (a + b) u (load-resumed image flash a b (loadState u device store) (load-spent u m)) m n w
 
   -- .. `run_whole_upload`, which never ends in 28 from the upload's start: after a `run_upload` that did, it comes to what it comes to from there
-  pub whole-upload-resumed : (area : ℕ) (checks : Bool)
-      → loaded.RunMeets first store₁ (loadRun image flash a (loadState (freshWhole area checks (length image)) device store))
+  pub whole-upload-resumed : (area : ℕ)
+      → loaded.RunMeets first store₁ (loadRun image flash a (loadState (freshWhole area (length image)) device store))
       → loaded.RunMeets second store₂ (loadRun image flash (uploadBudget (first .upload .length)) (loadState (first .upload) (first .device) store₁))
-      → loaded.RunMeets whole store₃ (loadRun image flash (uploadBudget (length image)) (loadState (freshWhole area checks (length image)) device store))
+      → loaded.RunMeets whole store₃ (loadRun image flash (uploadBudget (length image)) (loadState (freshWhole area (length image)) device store))
       → (whole ≡ joinedLoad first second) × (store₃ ≡ store₂)
-  whole-upload-resumed area checks m n w =
-      let u = freshWhole area checks (length image) in
+  whole-upload-resumed area m n w =
+      let u = freshWhole area (length image) in
       let spent = load-spent u m in
       let same : first .upload .length ≡ length image =
       ap (λ (t : LoadState). t .upload .length) (m .leaves) ∙ load-length image flash a (loadState u device store) spent in
-      load-joins (uploadBudget (length image)) (uploadBudget (length image)) u (load-whole area checks image flash a device store spent) m
+      load-joins (uploadBudget (length image)) (uploadBudget (length image)) u (load-whole area image flash a device store spent) m
       (subst (λ (k : ℕ). loaded.RunMeets second store₂ (loadRun image flash (uploadBudget k) (loadState (first .upload) (first .device) store₁))) same n) w

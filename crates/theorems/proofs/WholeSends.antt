@@ -16,7 +16,8 @@ use Rattle.promise.specs.Does.{Does, does}
 use Rattle.maskrom.specs.Answers.{Asks}
 use Rattle.maskrom.specs.PartWise.{asks}
 use Rattle.maskrom.specs.Whole.{most, sentOn, sendsOn, wholeStep}
-use Rattle.maskrom_transfer.proofs.Cases.{length-check, writing-block}
+use Rattle.promise.proofs.Order.{length-high-first}
+use Rattle.maskrom_transfer.proofs.Cases.{writing-block}
 use Rattle.maskrom.proofs.Cases.{whole-sends, sends-acts}
 use Rattle.theorems.specs.PartDriver.{transfer}
 use Rattle.theorems.proofs.CutIntoTransfers.{cut-block}
@@ -58,7 +59,7 @@ module _ (image : List ℕ) where
   check u l e =
       let next = sentOn u 0 (u .crc) Done in
       let k = checkBytes (u .crc) in
-      sends u next (u .area) k [] (omega (arith, length-check (u .crc)))
+      sends u next (u .area) k [] (omega (arith, length-high-first 2 (u .crc)))
       (whole-goes u Check [] (u .crc) (moves k (u .crc) Done) l e refl (over-empty (u .crc)) refl) (done next l refl)
 
   -- what is left, `l`, is some whole blocks and less than one

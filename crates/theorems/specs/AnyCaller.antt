@@ -2,7 +2,6 @@
 -- likes between two calls.
 use Prim.Native.Nat.{ℕ, zero, suc, _+_, _<_, _≤_}
 use mathlib.Core.Path.{_≡_}
-use mathlib.Core.Bool.{Bool}
 use mathlib.Core.List.{List, [], _∷_, _++_}
 use mathlib.Core.Logic.{_⊎_}
 use lib.ListN.{length, take, drop}
@@ -37,7 +36,7 @@ askedSeen finish out = []
 -- where any calls at all can bring a caller of a part-wise upload: to a record, with these bytes taken, by the counts of the answers, and these
 -- transfers seen
 pub data Called (area : ℕ) : MaskRomOperation → List ℕ → List Transfer → Type 0 where
-  -- `MaskRomOperation::new`, or `new_no_crc`
+  -- `MaskRomOperation::new`
   made : (m : MaskRomOperation) → m ≡ fresh area → Called area m [] []
   -- a part, or a closing step, that is not refused
   taking : (m : MaskRomOperation) (taken : List ℕ) (ts : List Transfer) (part before now : List ℕ) (r : PartStepped) (a : Handed)
@@ -81,7 +80,7 @@ closingSteps _ _ _ (no-closing m taken ts before now r n vs d p g) = closingStep
 -- where his calls can bring him: to a record, with `left` of the image to be handed over yet, and these transfers seen. Of calls that are refused nothing
 -- is asked.
 pub data Reached (area : ℕ) (image : List ℕ) : MaskRomOperation → List ℕ → List Transfer → Type 0 where
-  -- `MaskRomOperation::new`, or `new_no_crc`: all of the image is left
+  -- `MaskRomOperation::new`: all of the image is left
   starts : (m : MaskRomOperation) → m ≡ fresh area → Reached area image m image []
   -- a part that begins what is left, any of it or none: what the answer says was taken is left no more
   hands : (m : MaskRomOperation) (left : List ℕ) (ts : List Transfer) (part rest before now : List ℕ) (r : PartStepped) (a : Handed)
@@ -128,7 +127,7 @@ ComesBy (suc calls) all m left ts =
 
 -- where his calls can bring him: to a record, with these transfers seen. A step that is refused may have been lent anything.
 pub data Stepped (area : ℕ) (image : List ℕ) : WholeUpload → List Transfer → Type 0 where
-  -- `write_area`, or `write_area_no_crc`
+  -- `write_area`
   begun : (r : WholeStart) → StartMeets r area image → startTold (r .start) ≡ given tt → Stepped area image (r .upload) []
   stepping : (u : WholeUpload) (ts : List Transfer) (before now : List ℕ) (r : WholeStepped) (a : Asks)
       → Stepped area image u ts → StepMeets r u image before now → stepTold (r .step) ≡ given a

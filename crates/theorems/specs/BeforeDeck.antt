@@ -46,8 +46,7 @@ module _ (turn : UsbState → Turned Reply UsbState) where
   carryOutBy tag (request.ResetDevice opcode) h = operateBy (fresh kind.Nothing (resetCommand tag opcode)) [] h
   carryOutBy tag request.Storage h = operateBy (fresh kind.Storage (storageCommand tag)) [] h
   carryOutBy tag (request.SwitchStorage index) h = operateBy (fresh kind.Nothing (switchCommand tag index)) [] h
-  carryOutBy tag (request.WriteArea area n fill) h = load area true (replicate n fill) h
-  carryOutBy tag (request.WriteAreaNoCrc area n fill) h = load area false (replicate n fill) h
+  carryOutBy tag (request.WriteArea area n fill) h = load area (replicate n fill) h
 
   unfoldable pub dealAskedBy : ℕ → Told Request → Head → Deal
   dealAskedBy tag (given request) h = carryOutBy tag request h

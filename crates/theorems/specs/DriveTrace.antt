@@ -1,7 +1,6 @@
 -- The transfers of an upload that is driven over one output, as C and Rust link it (ffi/Drive), in order: those of each call, by what it is told and by
 -- the output as it leaves it; and how many calls it takes.
 use Prim.Native.Nat.{ℕ, zero, suc, _+_, _-_, _*_, _/_, _%_}
-use mathlib.Core.Bool.{Bool}
 use mathlib.Core.List.{List, [], _++_}
 use lib.Dec.{eqb}
 use lib.ListN.{length, take}
@@ -58,7 +57,7 @@ unfoldable pub onStartTrace : Told (Does Unit WholeUpload) → List ℕ → List
 onStartTrace (given d) image out budget = stepTrace (stepOf image) budget (d .becomes) out
 onStartTrace (refused n vs) image out budget = []
 
-abbrev pub wholeTrace : ℕ → Bool → List ℕ → List ℕ → ℕ → List Transfer
+abbrev pub wholeTrace : ℕ → List ℕ → List ℕ → ℕ → List Transfer
 wholeTrace area image out budget = onStartTrace (startStep area image) image out budget
 
 -- the transfers of `partDrive`: those of the parts, then those of the closing steps where all was handed over
@@ -66,7 +65,7 @@ unfoldable pub onHandedTrace : ℕ → MaskRomOperation → List ℕ → List Tr
 onHandedTrace zero m out = stepTrace closeStep mostClosing m out
 onHandedTrace (suc n) m out = []
 
-unfoldable pub partTrace : ℕ → Bool → ℕ → List ℕ → List ℕ → ℕ → List Transfer
+unfoldable pub partTrace : ℕ → ℕ → List ℕ → List ℕ → ℕ → List Transfer
 partTrace area size image out budget =
     let s = handing (fresh area) image out in
     let run = runs (partTurn size) budget s in

@@ -1,6 +1,5 @@
 -- Handing an image over to the end: the driver sees nothing of an upload but its answers and the output.
 use Prim.Native.Nat.{ℕ, zero, suc, _+_, _≤_}
-use mathlib.Core.Bool.{Bool}
 use mathlib.Core.List.{List, [], _∷_, map, _++_, flatten}
 use lib.ListN.{length, take, drop, replicate}
 use Rattle.promise.specs.Told.{Told, given, refused}
@@ -77,7 +76,7 @@ handAll [] m out go = go m out
 handAll (part ∷ parts) m out go = hand (length part + 1) m part out (λ m′ now. handAll parts m′ now go)
 
 -- a fresh upload, the parts, then closing steps: two transfers at most and the finish
-unfoldable pub driveParts : ℕ → Bool → List (List ℕ) → List ℕ → Drive
+unfoldable pub driveParts : ℕ → List (List ℕ) → List ℕ → Drive
 driveParts area parts out = handAll parts (fresh area) out (λ m now. stepThrough closeStep 3 m now)
 
 unfoldable pub onStart : Told Unit → Drive → Drive
@@ -85,7 +84,7 @@ onStart (given u) rest = rest
 onStart (refused n vs) rest = stopped n
 
 -- a fresh whole upload, by k steps at most
-unfoldable pub driveWhole : ℕ → ℕ → Bool → List ℕ → List ℕ → Drive
+unfoldable pub driveWhole : ℕ → ℕ → List ℕ → List ℕ → Drive
 driveWhole k area image out =
     let s = startStep area image in
     onStart (said s) (stepThrough (λ (u : WholeUpload) (room : ℕ). wholeStep u image room) k (after (freshWhole area 0) s) out)
@@ -94,11 +93,11 @@ driveWhole k area image out =
 abbrev pub transfer : ℕ → List ℕ → Transfer
 transfer area bs = record { setup = control area (length bs); bytes = bs }
 
-unfoldable pub transfersOf : ℕ → Bool → List ℕ → List Transfer
+unfoldable pub transfersOf : ℕ → List ℕ → List Transfer
 transfersOf area image = map (transfer area) (cut (uploadBytes image))
 
 -- the sizes of an upload's transfers
-abbrev pub sizesOf : Bool → List ℕ → List ℕ
+abbrev pub sizesOf : List ℕ → List ℕ
 sizesOf image = map length (cut (uploadBytes image))
 
 -- an image of n bytes under any cut: what comes of it, how many transfers, and how long the last is

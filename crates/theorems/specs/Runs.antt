@@ -1,6 +1,5 @@
 -- Whole runs from their starts, and the control write that each transfer of an upload is.
 use Prim.Native.Nat.{ℕ}
-use mathlib.Core.Bool.{Bool}
 use mathlib.Core.List.{List}
 use lib.ListN.{length, replicate}
 use Rattle.maskrom.specs.Whole.{freshWhole}
@@ -30,7 +29,7 @@ abbrev pub written : MockState → ℕ → List ℕ → List ℕ → Call
 written device area bytes store = writeControl device 0x40 0xc 0 area bytes store
 
 -- the run of an upload from its start
-abbrev pub uploadRun : ℕ → Bool → List ℕ → ℕ → MockState → List ℕ → ℕ → Ran Unit LoadState
+abbrev pub uploadRun : ℕ → List ℕ → ℕ → MockState → List ℕ → ℕ → Ran Unit LoadState
 uploadRun area image flash device store budget = loadRun image flash budget (loadState (freshWhole area (length image)) device store)
 
 -- one whole operation from its start

@@ -1,24 +1,24 @@
 -- The bytes of an upload, and how they are cut into transfers.
 use Prim.Native.Nat.{ℕ, zero, suc, _+_, _/_, _%_}
-use mathlib.Core.Bool.{Bool}
 use mathlib.Core.List.{List, [], _∷_, _++_}
 use lib.ListN.{length, take, drop}
 use lib.Dec.{eqb}
 use Rattle.promise.specs.Rules.{pick}
 use Rattle.crc.specs.Check.{check}
 use Rattle.maskrom_transfer.specs.Moves.{blockSize, checkBytes}
-use Rattle.maskrom.specs.Made.{pad}
+use Rattle.maskrom.specs.Made.{pad, padded}
 
 -- "a zero if the length mod 4,096 is 4,094"
 unfoldable pub lastZero : ℕ → List ℕ
 lastZero n = pick (eqb (n % blockSize) 4094) (0 ∷ []) []
 
--- "the image; a zero if ..; the check of all that ..; a zero if .."
-unfoldable pub uploadBytes : Bool → List ℕ → List ℕ
-uploadBytes image =
-    let n = length image in
-    let body = image ++ pad n in
-    body ++ (checkBytes (check body) ++ lastZero n)
+-- "the image; a zero if ..", then these two bytes, then "a zero if .."
+unfoldable pub framed : List ℕ → List ℕ → List ℕ
+framed two image = padded image ++ (two ++ lastZero (length image))
+
+-- "the check of all that, high byte first"
+unfoldable pub uploadBytes : List ℕ → List ℕ
+uploadBytes image = framed (checkBytes (check (padded image))) image
 
 -- k transfers, each as long as it can be
 unfoldable pub pieces : ℕ → List ℕ → List (List ℕ)
