@@ -1,6 +1,6 @@
 -- Part-wise: what is known of a record once the bytes p are taken, shown of every start and kept by every call, refused or not.
 use Prim.Native.Nat.{ℕ, _+_, _-_, _%_, _<_, _≤_, min}
-use mathlib.Core.Path.{_≡_, refl, ap, ap₂, sym, subst, _∙_}
+use mathlib.Core.Path.{_≡_, refl, ap, sym, subst, _∙_}
 use mathlib.Core.Bool.{false}
 use mathlib.Core.List.{List, [], _∷_, _++_, append-assoc, append-nil}
 use native.Mathlib.Omega.{arith}

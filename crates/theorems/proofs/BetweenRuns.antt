@@ -1,7 +1,6 @@
 -- What holds of the device between one run and the next: it has no transaction, and what it is lent is as long as ever.
 use Prim.Native.Nat.{ℕ}
 use mathlib.Core.Path.{ap, sym, _∙_}
-use mathlib.Core.Bool.{Bool}
 use mathlib.Core.List.{List}
 use lib.ListN.{length}
 use Rattle.operation.specs.declared.steps.UsbOperation.{UsbOperation}

@@ -1,6 +1,5 @@
 -- What holds of every whole operation from its start and of every whole upload holds of all that a block can ask for.
 use Prim.Native.Nat.{ℕ, _*_}
-use mathlib.Core.Bool.{Bool, true, false}
 use mathlib.Core.List.{List, []}
 use lib.ListN.{replicate}
 use Rattle.protocol.specs.Commands.{chipInfoCommand, flashIdCommand, flashInfoCommand, capabilityCommand, storageCommand, eraseLbaCommand, eraseForceCommand, readLbaCommand, writeLbaCommand, resetCommand, switchCommand}

@@ -1,7 +1,6 @@
 -- What an upload keeps, whatever it ends in: control writes change the areas and the store's bytes alone.
 use Prim.Native.Nat.{ℕ}
 use mathlib.Core.Path.{_≡_, refl, ap, _∙_}
-use mathlib.Core.Bool.{Bool}
 use mathlib.Core.List.{List}
 use lib.ListN.{length}
 use Rattle.promise.specs.Told.{refused}

@@ -1,7 +1,6 @@
 -- What an unrefused upload leaves: its transfers are one write after another to its area, and so all of them come to one write of the upload's bytes.
 use Prim.Native.Nat.{ℕ, _+_, _*_}
 use mathlib.Core.Path.{_≡_, refl, ap, sym, subst, _∙_}
-use mathlib.Core.Bool.{Bool}
 use mathlib.Core.List.{List, [], _++_, flatten, append-assoc, append-nil}
 use mathlib.Core.Option.{Option, some}
 use native.Mathlib.Omega.{arith}

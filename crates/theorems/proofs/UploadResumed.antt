@@ -3,7 +3,6 @@
 -- What the before the first step look at is kept by every turn, so that they pass again.
 use Prim.Native.Nat.{ℕ, zero, suc, _+_}
 use mathlib.Core.Path.{_≡_, refl, ap, ap₂, sym, subst, _∙_}
-use mathlib.Core.Bool.{Bool}
 use mathlib.Core.List.{List}
 use lib.ListN.{length}
 use Rattle.promise.specs.Told.{Told, given, refused, andThen}

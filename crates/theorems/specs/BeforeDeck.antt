@@ -1,7 +1,6 @@
 -- The deck over any turn of a run: what a block does to the head and the lines of a deck, word for word, but for the turn. Uploads are today's: their
 -- control writes go by neither variety nor transaction (`control-alike`, mock/proofs/Nor).
 use Prim.Native.Nat.{ℕ, _*_}
-use mathlib.Core.Bool.{Bool, true, false}
 use mathlib.Core.List.{List, [], _∷_, _++_}
 use lib.ListN.{length, replicate}
 use Rattle.promise.specs.Told.{Told, given, refused}

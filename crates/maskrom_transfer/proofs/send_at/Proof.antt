@@ -1,5 +1,5 @@
 -- Each arm is the case of `movesAt` for its variant (`at-steps`), with the bytes that `put` was given.
-use mathlib.Core.Path.{refl, _∙_}
+use mathlib.Core.Path.{refl}
 use mathlib.Core.List.{[], _∷_}
 use borrow.Author.Needs.{needs}
 use denote.Ref.{now}
