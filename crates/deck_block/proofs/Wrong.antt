@@ -1,21 +1,22 @@
 -- Programs that the contracts rule out, whatever their proofs: each answer is refuted at a named block.
 use Prim.Native.Nat.{ℕ, suc, _≤_}
-use mathlib.Core.Path.{_≡_, refl, sym, _∙_}
+use mathlib.Core.Path.{_≡_, refl, ap, sym, _∙_}
 use mathlib.Core.Bool.{not}
 use mathlib.Core.List.{List, [], _∷_, _++_}
 use native.Mathlib.Omega.{arith}
 use borrow.Author.Tests.{eq-eqb}
 use lib.Dec.{lit≤, eqb}
-use lib.ListN.{length, replicate}
+use lib.ListN.{length, getD, replicate}
 use Rattle.promise.specs.Told.{given, refused, number}
 use Rattle.promise.specs.Rules.{orRefuse, rule, unless}
 use Rattle.promise.specs.Bytes.{field, lowFirst, highFirst, fromLow, fromHigh}
+use Rattle.promise.specs.Over.{over}
 use Rattle.crc.specs.Check.{bitStep, bitsStep, byteStep, crcOver, check}
 use Rattle.deck_block.specs.declared.Request.{Request}
 use Rattle.deck_block.specs.declared.Request.the-variants as request
 use Rattle.deck_block.specs.declared.CardAnswer.{CardAnswer}
 use Rattle.deck_block.specs.declared.CardAnswer.the-variants as answer
-use Rattle.deck_block.specs.Block.{fieldsOf, blockCheck, firstCheck, withCheck, allZero, isKind, uncheckedKind, tooLarge}
+use Rattle.deck_block.specs.Block.{fieldsOf, blockCheck, firstCheck, withCheck, putCheck, allZero, isKind, uncheckedKind, tooLarge}
 use Rattle.deck_block.specs.Reading.{requestOf, readBy, readCard, cardTold}
 use Rattle.deck_block.proofs.Rechecked.{whole-block, right-there}
 use Rattle.deck_block.proofs.Place.{refused-elsewhere}
@@ -204,6 +205,22 @@ fixed-first r none one = let differ : _≡_ {A = ℕ} 0xFFFF 0xE1F0 = sym none �
 pub check-counted-in : (r : ℕ) → r ≡ check (replicate 510 0 ++ (1 ∷ 2 ∷ [])) → r ≡ firstCheck (replicate 510 0 ++ (1 ∷ 2 ∷ [])) → ⊥
 unfolding crcOver byteStep bitsStep bitStep
 check-counted-in r all first = let differ : _≡_ {A = ℕ} 0x0547 0x44B7 = sym all ∙ first in omega arith
+
+-- a check put into 512 zeros: its low byte first, one place early, and not at all
+abbrev zeros : List ℕ
+zeros = replicate 512 0
+
+pub put-low-first : over 510 (lowFirst 2 1) zeros ≡ putCheck 1 zeros → ⊥
+unfolding over highFirst lowFirst
+put-low-first meets = let z : _≡_ {A = ℕ} 1 0 = ap (λ (l : List ℕ). getD l 510 0) meets in omega arith
+
+pub put-early : over 509 (highFirst 2 1) zeros ≡ putCheck 1 zeros → ⊥
+unfolding over highFirst lowFirst
+put-early meets = let z : _≡_ {A = ℕ} 1 0 = ap (λ (l : List ℕ). getD l 510 0) meets in omega arith
+
+pub put-nowhere : zeros ≡ putCheck 1 zeros → ⊥
+unfolding over highFirst lowFirst
+put-nowhere meets = let z : _≡_ {A = ℕ} 0 1 = ap (λ (l : List ℕ). getD l 511 0) meets in omega arith
 
 -- one number for two refusals
 pub one-number : (n : ℕ) → n ≡ number (cardTold answer.Short) → n ≡ number (cardTold answer.BadCheck) → ⊥

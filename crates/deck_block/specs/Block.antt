@@ -2,10 +2,11 @@
 use Prim.Native.Nat.{ℕ}
 use mathlib.Core.Bool.{Bool, true, false}
 use mathlib.Core.List.{List, [], _∷_, _++_}
-use lib.ListN.{getD, take}
+use lib.ListN.{length, getD, take}
 use lib.Dec.{eqb, ltb, leb}
 use Rattle.promise.specs.Rules.{pick}
 use Rattle.promise.specs.Bytes.{field, highFirst, fromHigh}
+use Rattle.promise.specs.Over.{over}
 use Rattle.crc.specs.Check.{check}
 use Rattle.deck_block.specs.declared.Fields.{Fields}
 
@@ -39,6 +40,10 @@ firstCheck block = check (take checkedLength block)
 -- a block's bytes with the check of this tag behind them
 abbrev pub withCheck : ℕ → List ℕ → List ℕ
 withCheck tag block = take checkedLength block ++ highFirst 2 (blockCheck tag block)
+
+-- a block with this check where it has its own, "bytes 510-511 .., high byte first"; one that is short has no place for it
+abbrev pub putCheck : ℕ → List ℕ → List ℕ
+putCheck check block = pick (ltb (length block) blockLength) block (over checkedLength (highFirst 2 check) block)
 
 unfoldable pub allZero : List ℕ → Bool
 allZero [] = true

@@ -1,9 +1,11 @@
 // The check of a block: with its place, and as decks had it before.
+use crate::CARD_BYTES;
+use protocol_bytes::order::u16_to_be_bytes;
 use protocol_bytes::order::u32_to_be_bytes;
 ghost use mathlib.Core.Path.{_≡_};
 ghost use lib.ListN.{take};
 ghost use Rattle.crc.specs.Check.{crcOver};
-ghost use Rattle.deck_block.specs.Block.{firstCheck, blockCheck};
+ghost use Rattle.deck_block.specs.Block.{firstCheck, blockCheck, putCheck};
 
 // What the register of a check starts with.
 const START: u16 = 0xFFFF;
@@ -34,4 +36,16 @@ pub fn block_check(tag: u32, block: &[u8]) -> u16
 {
     let place = u32_to_be_bytes(tag);
     over_block(crc::checksum(&place), block)
+}
+
+// Puts a check where a block has its own, high byte first. A block of fewer than 512 bytes has no place for one, and is left as it was.
+pub fn put_check(check: u16, block: &mut [u8])
+    ensures { λ _. ⌜ now (block .exit) ≡ putCheck check (now (block .entry)) ⌝ }
+{
+    if block.len() < CARD_BYTES {
+        return;
+    }
+    let bytes = u16_to_be_bytes(check);
+    block[510] = bytes[0];
+    block[511] = bytes[1];
 }

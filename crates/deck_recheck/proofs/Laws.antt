@@ -1,5 +1,5 @@
 -- One block of a chunk, the chunk so far, and its end.
-use Prim.Native.Nat.{ℕ, suc, _+_, _-_, _≤_, _<_}
+use Prim.Native.Nat.{ℕ, _+_, _-_, _≤_, _<_}
 use mathlib.Core.Path.{_≡_, refl, ap, ap₂, sym, subst, _∙_}
 use mathlib.Core.Bool.{Bool, true, false}
 use mathlib.Core.List.{List, [], _∷_, _++_, append-assoc, append-nil}
@@ -10,17 +10,15 @@ use mathlib.Core.Logic.{_⊎_, inl, inr, ⊎-elim}
 use borrow.Author.Tests.{lt-ltb, le-ltb, ltb-false}
 use borrow.Rule.Slice.PartMut.{putMid}
 use lib.Dec.{eqb}
-use lib.ListN.{length, take, drop, set, length-take, length-drop, take-append-drop, drop-of-length-le}
-use lib.Seq.{sets-eq, length-take-le, drop-drop}
+use lib.ListN.{length, take, drop, length-take, length-drop, take-append-drop}
+use lib.Seq.{length-take-le, drop-drop}
 use Rattle.promise.specs.Told.{Told, given, refused}
 use Rattle.promise.specs.Rules.{orRefuse}
-use Rattle.promise.specs.Bytes.{highFirst}
 use Rattle.promise.specs.Over.{over}
 use Rattle.promise.proofs.Outcome.{either-way}
-use Rattle.promise.proofs.Order.{length-high-first}
 use Rattle.promise.proofs.Over.{over-nothing, length-over, drop-over, field-grows}
 use Rattle.promise.proofs.Copied.{put-over}
-use Rattle.deck_block.specs.Block.{blockLength, checkedLength, fieldsOf, blockCheck, firstCheck, withCheck}
+use Rattle.deck_block.specs.Block.{blockLength, checkedLength, fieldsOf, firstCheck, withCheck}
 use Rattle.deck_block.specs.Blocks.{isShort, blocksOf, blockAt}
 use Rattle.deck_block.proofs.Blocks.{blocks-next, no-blocks}
 use Rattle.deck_block.proofs.Rechecked.{whole-block}
@@ -31,20 +29,6 @@ use Rattle.deck_recheck.specs.declared.RecheckStep.{RecheckStep}
 use Rattle.deck_recheck.specs.Recheck.{stopTold, Standing, standing, nextNumber, nextTag, behind, Written, written, firstRules, recheckBlock, unlessStopped, recheckNext, thenWrite, recheckBlocks, recheckAll, RecheckMeets}
 use Rattle.deck_recheck.specs.Code.{stepAt, BlockMeets, NextMeets}
 use Rattle.deck_recheck.proofs.Stop as stops
-
--- two bytes set, one after the other
-pub two-set : (at a b : ℕ) (l : List ℕ) → at + 2 ≤ length l → set (set l at a) (suc at) b ≡ over at (a ∷ b ∷ []) l
-unfolding over
-two-set at a b l h = sets-eq (a ∷ b ∷ []) l at h ∙ append-assoc (take at l) (a ∷ b ∷ []) (drop (at + 2) l)
-
--- a check put over the old one
-pub over-check : (tag check : ℕ) (block : List ℕ) → length block ≡ blockLength → check ≡ blockCheck tag block → over 510 (highFirst 2 check) block ≡ withCheck tag block
-unfolding over
-over-check tag check block long e =
-    let none : drop (510 + length (highFirst 2 check)) block ≡ [] = drop-of-length-le block {i = 510 + length (highFirst 2 check)} (let two = length-high-first 2 check in omega arith) in
-    ap (λ (l : List ℕ). take 510 block ++ (highFirst 2 check ++ l)) none
-    ∙ ap (λ (l : List ℕ). take 510 block ++ l) (append-nil (highFirst 2 check))
-    ∙ ap (λ (c : ℕ). take 510 block ++ highFirst 2 c) e
 
 -- what has stopped stays so
 abbrev pub IsStopped : Told Unit → Type 0

@@ -1,15 +1,13 @@
 // Decks made before a block's check had its place in it: each block's old check is looked at, and the new one put in its place.
 use deck_block::check::block_check;
 use deck_block::check::first_check;
+use deck_block::check::put_check;
 use protocol_bytes::order::u16_from_be_bytes;
-use protocol_bytes::order::u16_to_be_bytes;
 ghost use mathlib.Core.Path.{_≡_};
 ghost use Prim.Native.Nat.{ℕ, _≤_, _<_};
 ghost use lib.Dec.{eqb};
 ghost use lib.ListN.{length};
 ghost use Rattle.promise.specs.Told.{number};
-ghost use Rattle.promise.specs.Bytes.{highFirst};
-ghost use Rattle.promise.specs.Over.{over};
 ghost use Rattle.deck_block.specs.Block.{fieldsOf, firstCheck, withCheck};
 ghost use Rattle.deck_block.specs.Blocks.{blockAt};
 ghost use Rattle.deck_recheck.specs.Recheck.{stopTold, standing, newRecheck, recheckNext, recheckAll, RecheckMeets};
@@ -58,15 +56,6 @@ fn has_first_check(block: &[u8]) -> bool
 {
     let stated = [block[510], block[511]];
     u16_from_be_bytes(stated) == first_check(block)
-}
-
-fn put_check(check: u16, block: &mut [u8])
-    requires { ⌜ length (now block) ≡ 512 ⌝ }
-    ensures { λ _. ⌜ now (block .exit) ≡ over 510 (highFirst 2 check) (now (block .entry)) ⌝ }
-{
-    let bytes = u16_to_be_bytes(check);
-    block[510] = bytes[0];
-    block[511] = bytes[1];
 }
 
 // Puts the check with this tag in the place of the old one, where that is right, and says whether it was.

@@ -3,7 +3,7 @@ use mathlib.Core.Path.{_≡_, refl, sym, _∙_}
 use borrow.Author.Needs.{needs}
 use borrow.Author.Tests.{not-true, not-false}
 use denote.Ref.{now}
-use Rattle.deck_recheck.proofs.Laws.{over-check}
+use Rattle.deck_block.proofs.Put.{put-right}
 use Rattle.deck_recheck.proofs.recheck_block.Statement.{statement}
 use Rattle.deck_recheck.proofs.recheck_block.Tie as tie
 
@@ -22,7 +22,7 @@ returns-2 c =
       right = sym (not-false (looked .result) (c .before .before .before .before .before .before .if1 .left)) ∙ looked .ensures;
       leaves =
           c .before .before .put-check .ensures
-          ∙ over-check (s .args .tag) _ (now (s .args .block)) (s .pre) (c .before .before .before .before .block-check .ensures);
+          ∙ put-right (s .args .tag) _ (now (s .args .block)) (s .pre) (c .before .before .before .before .block-check .ensures);
     }
 
 pub recheck-block-spec : {M : Type 1} → statement M
@@ -33,6 +33,6 @@ recheck-block-spec =
     (λ c. search needs)
     returns
     (λ c κs. search needs)
-    (λ c κs. c .before .before .before .before .before .before .before .pre)
+    (λ c κs. search needs)
     (λ c. c .before .before .put-check .kept .1 .0)
     returns-2)
