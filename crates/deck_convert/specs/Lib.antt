@@ -1,0 +1,4 @@
+-- A deck without kind 13. `Convert` has what a block and a whole input come to and what the library promises, `Code` what the private functions
+-- promise.
+pub mod Convert
+pub mod Code
