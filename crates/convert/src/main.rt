@@ -32,7 +32,7 @@ fn say_done(convert: Convert) {
 
 fn say_unread(blocks: u64) {
     complain_of(
-        b"convert: whole blocks that were read before that, all of them written: ",
+        b"convert: whole blocks that were written before that: ",
         blocks,
         b"; what was read behind them was not written; convert the deck again from its first block\n",
     );
