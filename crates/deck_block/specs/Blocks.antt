@@ -1,5 +1,5 @@
 -- The blocks of an input.
-use Prim.Native.Nat.{ℕ, zero, suc, _+_, _/_}
+use Prim.Native.Nat.{ℕ, zero, suc, _+_, _/_, _%_}
 use mathlib.Core.Path.{_≡_}
 use mathlib.Core.Bool.{Bool}
 use mathlib.Core.List.{List, [], _∷_, _++_}
@@ -28,6 +28,12 @@ blocksOf input = cut (begun (length input)) input
 unfoldable pub joined : List (List ℕ) → List ℕ
 joined [] = []
 joined (part ∷ parts) = part ++ joined parts
+
+-- every part of an input but the last has whole blocks; it may have none
+abbrev pub WholeButLast : List (List ℕ) → Type 0
+WholeButLast [] = Unit
+WholeButLast (part ∷ []) = Unit
+WholeButLast (part ∷ next ∷ parts) = (length part % blockLength ≡ 0) × WholeButLast (next ∷ parts)
 
 -- no block is short
 abbrev pub Whole : List (List ℕ) → Type 0

@@ -1,5 +1,5 @@
 -- Any caller of `convert_chunk`, who has its contract alone: one chunk, the same chunk twice, and a deck chunk by chunk.
-use Prim.Native.Nat.{ℕ, zero, suc, _+_, _%_, _^_, _≤_, _<_}
+use Prim.Native.Nat.{ℕ, zero, suc, _+_, _%_, _^_, _<_}
 use mathlib.Core.Path.{_≡_, refl, ap, ap₂, sym, subst, _∙_}
 use mathlib.Core.List.{List, [], _∷_, _++_, append-assoc, append-nil}
 use native.Mathlib.Omega.{arith}
@@ -8,14 +8,14 @@ use lib.ListN.{length, take, drop}
 use lib.Seq.{take-all, drop-at}
 use Rattle.deck_block.specs.Block.{blockLength}
 use Rattle.deck_block.specs.Place.{RightFrom, tagAfter}
-use Rattle.deck_block.specs.Blocks.{begun, cut, blocksOf, joined}
+use Rattle.deck_block.specs.Blocks.{begun, cut, blocksOf, joined, WholeButLast}
 use Rattle.deck_block.proofs.Blocks.{blocks-append}
 use Rattle.deck_convert.specs.declared.Convert.{Convert}
-use Rattle.deck_convert.specs.Convert.{isConverted, isLeft, convertBlock, convertBlocks, convertAll, behind, behindBlocks, behindAll, ConvertMeets}
-use Rattle.deck_convert.specs.Converted.{Each, howMany, None46, WholeButLast, Converts, no-more, a-chunk}
+use Rattle.deck_convert.specs.Convert.{isUnchecked, isConverted, isLeft, convertBlock, convertBlocks, convertAll, behind, behindBlocks, behindAll, ConvertMeets}
+use Rattle.deck_convert.specs.Converted.{Each, howMany, None46, Converts, no-more, a-chunk}
 use Rattle.deck_convert.proofs.OneBlock.{short-neither}
 use Rattle.deck_convert.proofs.Converted.{stays, never-46}
-use Rattle.deck_convert.proofs.Deck.{as-long-as-before, blocks-after, each-outcome, twice-all, none-twice, left-twice, converted-count, left-count, right-none-left, right-again}
+use Rattle.deck_convert.proofs.Deck.{as-long-as-before, blocks-after, each-outcome, twice-all, none-twice, left-twice, converted-count, left-count, unchecked-are-left, right-none-left, right-again}
 
 -- blocks, and then more
 blocks-then : (xs ys : List (List ℕ)) (c : Convert)
@@ -119,6 +119,10 @@ module _ (r : Convert) (after before : List ℕ) (c : Convert) (m : ConvertMeets
 
   pub counts-left : c .left < 2 ^ 64 → r .left ≡ (c .left + howMany isLeft first (blocksOf before)) % 2 ^ 64
   counts-left small = ap (λ (d : Convert). d .left) (m .next) ∙ left-count (blocksOf before) c small
+
+  -- and as many whole blocks of kind 13 are in the deck afterwards as are left
+  pub what-is-left : howMany (λ tag block. isUnchecked block) first (blocksOf after) ≡ howMany isLeft first (blocksOf before)
+  what-is-left = ap (howMany (λ tag block. isUnchecked block) first) its-blocks ∙ unchecked-are-left first (blocksOf before)
 
   -- a right deck is a right one again, and no block of it is left
   pub right-deck : RightFrom first (blocksOf before) → c .left < 2 ^ 64 → RightFrom first (blocksOf after) × (r .left ≡ c .left)

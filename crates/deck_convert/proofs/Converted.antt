@@ -1,15 +1,15 @@
 -- One block: what is not converted stays, what is converted is an upload of kind 12 and nothing else, and converting again changes nothing.
 use Prim.Native.Nat.{ℕ, _≤_, _<_}
-use mathlib.Core.Path.{_≡_, refl, ap, ap₂, sym, subst, _∙_}
+use mathlib.Core.Path.{_≡_, refl, ap, sym, subst, _∙_}
 use mathlib.Core.Bool.{Bool, true, false, not, false≢true}
 use mathlib.Core.List.{List, [], _∷_}
 use native.Mathlib.Omega.{arith}
-use borrow.Author.Tests.{le-ltb, lt-ltb, ltb-false, eq-eqb, eqb-true, not-false}
-use lib.Dec.{eqb}
-use lib.ListN.{length, take, drop, getD, length-take, length-drop}
+use borrow.Author.Tests.{le-ltb, lt-ltb, ltb-false, eq-eqb, ne-eqb, eqb-true, not-false}
+use lib.Dec.{eqb, ltb}
+use lib.ListN.{length, take, drop, length-take, length-drop}
 use lib.Seq.{take-at, drop-drop, getD-drop}
 use Rattle.promise.specs.Told.{Told, given, refused, number}
-use Rattle.promise.specs.Rules.{pick, rule, unless, orRefuse}
+use Rattle.promise.specs.Rules.{pick, orRefuse}
 use Rattle.promise.specs.Bytes.{field, highFirst, fromHigh}
 use Rattle.promise.proofs.Outcome.{by-test, on-test}
 use Rattle.protocol_codes.specs.declared.ResetOpcode.{ResetOpcode}
@@ -17,15 +17,16 @@ use Rattle.protocol_codes.specs.Reading.{resetOf}
 use Rattle.deck_block.specs.declared.Fields.{Fields}
 use Rattle.deck_block.specs.declared.Request.{Request}
 use Rattle.deck_block.specs.declared.Request.the-variants as request
-use Rattle.deck_block.specs.Block.{blockLength, checkedLength, fieldsOf, blockCheck, withCheck, allZero, isKind, tooLarge, uploadKind, uncheckedKind, longestImage}
+use Rattle.deck_block.specs.Block.{blockLength, checkedLength, fieldsOf, blockCheck, allZero, isKind, tooLarge, uploadKind, uncheckedKind, longestImage}
 use Rattle.deck_block.specs.Place.{RightAt}
 use Rattle.deck_block.specs.Blocks.{isShort}
+use Rattle.deck_block.specs.Refusals.{isAmong}
 use Rattle.deck_block.specs.Reading.{asksReset, resetRequest, requestOf, readBy, readCard}
 use Rattle.deck_block.proofs.ByKind.{by-kind}
-use Rattle.deck_block.proofs.Rechecked.{as-it-was, whole-block, right-there, read-as}
-use Rattle.deck_convert.specs.Convert.{isRight, isConverted, isLeft, asUpload, convertBlock}
+use Rattle.deck_block.proofs.Rechecked.{as-it-was, right-there, read-as}
+use Rattle.deck_convert.specs.Convert.{isUnchecked, isRight, isConverted, isLeft, asUpload, convertBlock}
 use Rattle.deck_convert.specs.Converted.{uploadRead, Upload, Outcome}
-use Rattle.deck_convert.proofs.OneBlock.{short-neither, other-neither, by-check, was-whole, was-unchecked, was-right, as-long, upload-long}
+use Rattle.deck_convert.proofs.OneBlock.{other-neither, by-check, was-whole, was-unchecked, was-right, as-long, upload-long}
 
 -- a block with another kind: its other fields are as they were
 module _ (block : List ℕ) (long : blockLength ≤ length block) where
@@ -103,6 +104,12 @@ module _ (block : List ℕ) where
   unfolding orRefuse
   else-asked zeros small = rw (zeros, le-ltb longestImage (fieldsOf block .word) small) refl
 
+-- so never another number
+pub no-other-number : (block : List ℕ) → isAmong (number (uploadRead block)) (0 ∷ 42 ∷ 43 ∷ []) ≡ true
+unfolding orRefuse number
+no-other-number block =
+    on-test (not (allZero (field 8 502 block))) (λ e. rw e refl) (λ e. on-test (ltb longestImage (fieldsOf block .word)) (λ large. rw (e, large) refl) (λ small. rw (e, small) refl))
+
 module _ (tag : ℕ) (block : List ℕ) where
   pub stays : isConverted tag block ≡ false → convertBlock tag block ≡ block
   unfolding convertBlock
@@ -127,6 +134,15 @@ module _ (tag : ℕ) (block : List ℕ) where
     λ long kind right. by-check tag block long kind true (eq-eqb (fieldsOf block .check) (blockCheck tag block) right) .0,
   )
 
+  -- what is not converted and of kind 13 is left
+  unturned : isConverted tag block ≡ false → isUnchecked block ≡ isLeft tag block
+  unturned e =
+      on-test (isUnchecked block)
+      (λ is.
+      let wrong : isRight tag block ≡ false = sym (ap (λ (u : Bool). pick u (isRight tag block) false) is) ∙ e in
+      is ∙ sym (ap (λ (u : Bool). pick u (not (isRight tag block)) false) is ∙ ap not wrong))
+      (λ not-so. not-so ∙ sym (ap (λ (u : Bool). pick u (not (isRight tag block)) false) not-so))
+
   -- once converted, no block is, and those that are left are still left
   pub none-again : isConverted tag (convertBlock tag block) ≡ false
   none-again =
@@ -141,6 +157,18 @@ module _ (tag : ℕ) (block : List ℕ) where
       let right : isRight tag block ≡ true = eq-eqb (fieldsOf block .check) (blockCheck tag block) (was-right tag block e) in
       ap (isLeft tag) (turns e) ∙ upload-neither tag block (was-whole tag block e) .1 ∙ sym (by-check tag block (was-whole tag block e) (was-unchecked tag block e) true right .1))
       (λ e. ap (isLeft tag) (stays e))
+
+  -- and of kind 13 is then what is left
+  pub unchecked-left : isUnchecked (convertBlock tag block) ≡ isLeft tag block
+  unchecked-left =
+      on-test (isConverted tag block)
+      (λ e.
+      let long = was-whole tag block e in
+      let whole = le-ltb (length (asUpload tag block)) blockLength (let l = upload-long tag block long in omega arith) in
+      let kind = ne-eqb (fieldsOf (asUpload tag block) .kind) uncheckedKind (λ k. let z : _≡_ {A = ℕ} 12 13 = sym (upload-kind tag block long) ∙ k in omega arith) in
+      let none : isUnchecked (asUpload tag block) ≡ false = rw whole kind in
+      ap isUnchecked (turns e) ∙ none ∙ sym (upload-neither tag block long .1) ∙ sym (ap (isLeft tag) (turns e)) ∙ left-again)
+      (λ e. ap isUnchecked (stays e) ∙ unturned e)
 
 -- converting twice is converting once
 pub twice-block : (tag : ℕ) (block : List ℕ) → convertBlock tag (convertBlock tag block) ≡ convertBlock tag block

@@ -2,25 +2,22 @@
 use Prim.Native.Nat.{ℕ, zero, suc, _+_, _%_, _^_, _≤_, _<_}
 use mathlib.Core.Path.{_≡_, refl, ap, ap₂, sym, subst, _∙_}
 use mathlib.Core.Bool.{Bool, true, false, not}
-use mathlib.Core.List.{List, [], _∷_, _++_, append-assoc, append-nil}
+use mathlib.Core.List.{List, [], _∷_, append-nil}
 use native.Mathlib.Omega.{arith}
 use native.Mathlib.Nat.{mod-eq-of-lt}
 use borrow.Author.Tests.{eq-eqb}
 use lib.ListN.{length, take, drop, length-append, length-take, length-drop}
 use lib.Seq.{take-all, take-at, drop-at}
-use Rattle.promise.specs.Told.{refused}
 use Rattle.promise.specs.Rules.{pick}
 use Rattle.promise.proofs.Outcome.{by-test, on-test}
 use Rattle.deck_block.specs.Block.{blockLength, fieldsOf, blockCheck}
 use Rattle.deck_block.specs.Place.{RightAt, RightFrom, tagAfter}
 use Rattle.deck_block.specs.Blocks.{begun, cut, blocksOf, joined}
-use Rattle.deck_block.specs.Reading.{readCard}
-use Rattle.deck_block.proofs.Blocks.{blocks-append, one-block}
 use Rattle.deck_convert.specs.declared.Convert.{Convert}
-use Rattle.deck_convert.specs.Convert.{isUnchecked, isConverted, isLeft, convertBlock, convertBlocks, convertAll, counted, behind, behindBlocks, behindAll, ConvertMeets}
-use Rattle.deck_convert.specs.Converted.{Upload, Outcome, Each, howMany}
-use Rattle.deck_convert.proofs.OneBlock.{short-neither, other-neither, by-check, was-whole, same-length}
-use Rattle.deck_convert.proofs.Converted.{stays, turns, is-upload, outcome, none-again, left-again, twice-block, never-46}
+use Rattle.deck_convert.specs.Convert.{isUnchecked, isConverted, isLeft, convertBlock, convertBlocks, convertAll, counted, behind, behindBlocks}
+use Rattle.deck_convert.specs.Converted.{Each, howMany}
+use Rattle.deck_convert.proofs.OneBlock.{same-length}
+use Rattle.deck_convert.proofs.Converted.{stays, outcome, none-again, left-again, unchecked-left, twice-block}
 
 -- the first of an input's blocks
 first-long : (tag : ℕ) (input : List ℕ) → length (convertBlock tag (take blockLength input)) ≡ length (take blockLength input)
@@ -117,6 +114,12 @@ left-twice (block ∷ blocks) d c place same =
     let tag = tagAfter (d .tag) in
     left-twice blocks (behind (convertBlock tag block) d) (behind block c) (ap tagAfter place)
     (ap (λ (b : Bool). counted b (d .left)) (left-again tag block) ∙ ap₂ (λ (t n : ℕ). counted (isLeft (tagAfter t) block) n) place same)
+
+-- of kind 13 are then those that are left, and no others
+pub unchecked-are-left : (tag : ℕ) (blocks : List (List ℕ)) → howMany (λ t block. isUnchecked block) tag (convertBlocks tag blocks) ≡ howMany isLeft tag blocks
+unfolding convertBlocks
+unchecked-are-left tag [] = refl
+unchecked-are-left tag (block ∷ blocks) = ap₂ (λ (b : Bool) (n : ℕ). pick b 1 0 + n) (unchecked-left tag block) (unchecked-are-left (tagAfter tag) blocks)
 
 -- a block that is right is not left
 not-left : (tag : ℕ) (block : List ℕ) → RightAt tag block → isLeft tag block ≡ false

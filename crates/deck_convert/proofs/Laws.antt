@@ -17,7 +17,7 @@ use Rattle.deck_block.specs.Place.{tagAfter}
 use Rattle.deck_block.specs.Blocks.{blocksOf, joined, blockAt}
 use Rattle.deck_block.proofs.Blocks.{blocks-next, no-blocks}
 use Rattle.deck_convert.specs.declared.Convert.{Convert}
-use Rattle.deck_convert.specs.Convert.{convertBlock, convertBlocks, convertAll, behind, behindBlocks, behindAll, ConvertMeets}
+use Rattle.deck_convert.specs.Convert.{convertBlocks, convertAll, behind, behindBlocks, behindAll, ConvertMeets}
 use Rattle.deck_convert.specs.Code.{BlockMeets, blockEnd}
 use Rattle.deck_convert.proofs.OneBlock.{same-length}
 

@@ -15,7 +15,7 @@ use Rattle.promise.proofs.Outcome.{by-test, on-test}
 use Rattle.deck_block.specs.declared.Request.{Request}
 use Rattle.deck_block.specs.declared.CardAnswer.{CardAnswer}
 use Rattle.deck_block.specs.declared.CardAnswer.the-variants as answer
-use Rattle.deck_block.specs.Block.{blockLength, checkedLength, fieldsOf, blockCheck, withCheck, uploadKind, uncheckedKind}
+use Rattle.deck_block.specs.Block.{blockLength, fieldsOf, blockCheck, uploadKind, uncheckedKind}
 use Rattle.deck_block.specs.Place.{RightAt, tagAfter}
 use Rattle.deck_block.specs.Blocks.{isShort}
 use Rattle.deck_block.specs.Reading.{cardTold, readBy, readCard}

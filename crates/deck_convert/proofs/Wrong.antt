@@ -40,6 +40,13 @@ old = body 13 ++ highFirst 2 (firstCheck (body 13))
 abbrev upload : List ℕ
 upload = sealed 1 12
 
+-- kind 13, right at block 1, with byte 8 set: 42 comes of it
+abbrev marked-body : List ℕ
+marked-body = 13 ∷ 0 ∷ 0 ∷ 0 ∷ 0 ∷ 0 ∷ 0 ∷ 0 ∷ 1 ∷ replicate 501 0
+
+abbrev marked : List ℕ
+marked = withCheck 1 marked-body
+
 -- one block alone
 module _ (c : Convert) (block : List ℕ) (long : length block ≡ blockLength) where
   bytes-of : convertAll (c .tag) block ≡ convertBlock (tagAfter (c .tag)) block
@@ -76,6 +83,11 @@ right-comes : convertAll 0 right ≡ asUpload 1 right
 unfolding highFirst lowFirst
 right-comes = bytes-of newConvert right refl ∙ turns 1 right (right-turned 1 .0)
 
+marked-comes : convertAll 0 marked ≡ asUpload 1 marked
+unfolding fieldsOf highFirst lowFirst
+marked-comes =
+    bytes-of newConvert marked refl ∙ turns 1 marked (by-check 1 marked (lit≤ tt) refl true (eq-eqb _ _ (right-there 1 marked-body (lit≤ tt))) .0)
+
 bad-comes : convertAll 0 bad ≡ bad
 bad-comes = bytes-of newConvert bad refl ∙ stays 1 bad (bad-left .0)
 
@@ -90,7 +102,7 @@ touches-a-bad-block r m = let z : _≡_ {A = ℕ} 12 13 = ap (λ (l : List ℕ).
 pub takes-the-first-check : (r : Convert) → ConvertMeets r (asUpload 1 old) old newConvert → ⊥
 takes-the-first-check r m = let z : _≡_ {A = ℕ} 12 13 = ap (λ (l : List ℕ). getD l 0 0) (m .leaves ∙ old-comes) in omega arith
 
--- the old check kept: the kind alone is changed
+-- the old check kept, or the new one made before the kind was changed: the kind alone is another
 pub keeps-the-old-check : (r : Convert) → ConvertMeets r (12 ∷ drop 1 right) right newConvert → ⊥
 unfolding blockCheck highFirst lowFirst crcOver byteStep bitsStep bitStep
 keeps-the-old-check r m = let z : _≡_ {A = ℕ} 0xa9 0xf2 = ap (λ (l : List ℕ). getD l 510 0) (m .leaves ∙ right-comes) in omega arith
@@ -100,7 +112,7 @@ pub forgets-the-place : (r : Convert) → ConvertMeets r (body 12 ++ highFirst 2
 unfolding blockCheck highFirst lowFirst crcOver byteStep bitsStep bitStep
 forgets-the-place r m = let z : _≡_ {A = ℕ} 0xc3 0xf2 = ap (λ (l : List ℕ). getD l 510 0) (m .leaves ∙ right-comes) in omega arith
 
--- the check of another place: of the block before, and of the next
+-- the new check made for another place: for the block before, and for the next
 pub place-before : (r : Convert) → ConvertMeets r (sealed 0 12) right newConvert → ⊥
 unfolding blockCheck highFirst lowFirst crcOver byteStep bitsStep bitStep
 place-before r m = let z : _≡_ {A = ℕ} 0x58 0xf2 = ap (λ (l : List ℕ). getD l 510 0) (m .leaves ∙ right-comes) in omega arith
@@ -109,14 +121,16 @@ pub place-behind : (r : Convert) → ConvertMeets r (sealed 2 12) right newConve
 unfolding blockCheck highFirst lowFirst crcOver byteStep bitsStep bitStep
 place-behind r m = let z : _≡_ {A = ℕ} 0x1d 0xf2 = ap (λ (l : List ℕ). getD l 510 0) (m .leaves ∙ right-comes) in omega arith
 
--- the new check made before the kind was changed
-pub check-before-kind : (r : Convert) → ConvertMeets r (body 12 ++ highFirst 2 (blockCheck 1 (body 13))) right newConvert → ⊥
-unfolding blockCheck highFirst lowFirst crcOver byteStep bitsStep bitStep
-check-before-kind r m = let z : _≡_ {A = ℕ} 0xa9 0xf2 = ap (λ (l : List ℕ). getD l 510 0) (m .leaves ∙ right-comes) in omega arith
-
 -- doing nothing
 pub left-as-it-was : (r : Convert) → ConvertMeets r right right newConvert → ⊥
 left-as-it-was r m = let z : _≡_ {A = ℕ} 13 12 = ap (λ (l : List ℕ). getD l 0 0) (m .leaves ∙ right-comes) in omega arith
+
+-- a block with other bytes set: those cleared, or the block left because the bench would refuse it as 42
+pub clears-the-rest : (r : Convert) → ConvertMeets r upload marked newConvert → ⊥
+clears-the-rest r m = let z : _≡_ {A = ℕ} 0 1 = ap (λ (l : List ℕ). getD l 8 0) (m .leaves ∙ marked-comes) in omega arith
+
+pub leaves-what-42-refuses : (r : Convert) → ConvertMeets r marked marked newConvert → ⊥
+leaves-what-42-refuses r m = let z : _≡_ {A = ℕ} 13 12 = ap (λ (l : List ℕ). getD l 0 0) (m .leaves ∙ marked-comes) in omega arith
 
 -- another kind converted: 1, and 12, which shows in the count alone
 pub converts-another-kind : (r : Convert) → ConvertMeets r (asUpload 1 (sealed 1 1)) (sealed 1 1) newConvert → ⊥

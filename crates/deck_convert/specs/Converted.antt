@@ -1,5 +1,5 @@
 -- What the theorems say of a converted block, of every block of an input, of the counts, and of somebody who converts a deck chunk by chunk.
-use Prim.Native.Nat.{ℕ, _+_, _%_}
+use Prim.Native.Nat.{ℕ, _+_}
 use mathlib.Core.Path.{_≡_}
 use mathlib.Core.Bool.{Bool, true, false, not}
 use mathlib.Core.List.{List, [], _∷_, _++_}
@@ -54,12 +54,6 @@ None46 tag (block ∷ blocks) = (readCard tag block ≡ refused 46 [] → ⊥) �
 abbrev pub howMany : (ℕ → List ℕ → Bool) → ℕ → List (List ℕ) → ℕ
 howMany test tag [] = 0
 howMany test tag (block ∷ blocks) = pick (test tag block) 1 0 + howMany test (tagAfter tag) blocks
-
--- every part of an input but the last has whole blocks; it may have none
-abbrev pub WholeButLast : List (List ℕ) → Type 0
-WholeButLast [] = Unit
-WholeButLast (part ∷ []) = Unit
-WholeButLast (part ∷ next ∷ parts) = (length part % blockLength ≡ 0) × WholeButLast (next ∷ parts)
 
 -- any caller of `convert_chunk` who lends these chunks in this order: what they are afterwards, joined, and the deck behind them
 pub data Converts : Convert → List (List ℕ) → List ℕ → Convert → Type 0 where

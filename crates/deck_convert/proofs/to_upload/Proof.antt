@@ -1,7 +1,5 @@
 -- The first byte is set, and the check of what that makes is put in its place.
 use mathlib.Core.Path.{ap, _∙_}
-use mathlib.Core.List.{List}
-use Prim.Native.Nat.{ℕ}
 use native.Mathlib.Omega.{arith}
 use denote.Ref.{now}
 use lib.ListN.{set, length-set}

@@ -1,14 +1,11 @@
 -- A short block and one of another kind stay; one of kind 13 is converted where it is read as withdrawn, and left where it is not.
 use Prim.Native.Nat.{ℕ}
-use mathlib.Core.Path.{_≡_, refl, ap, sym, subst, _∙_}
+use mathlib.Core.Path.{refl, ap, sym, _∙_}
 use mathlib.Core.Bool.{true, false}
-use native.Mathlib.Omega.{arith}
 use borrow.Author.Needs.{needs}
 use denote.Ref.{now}
-use Rattle.deck_block.specs.declared.CardAnswer.{CardAnswer}
 use Rattle.deck_block.specs.Block.{fieldsOf}
-use Rattle.deck_block.specs.Reading.{cardTold, readCard}
-use Rattle.deck_convert.specs.declared.Convert.{Convert}
+use Rattle.deck_block.specs.Reading.{cardTold}
 use Rattle.deck_convert.proofs.OneBlock.{short-neither, other-neither, by-check, withdrawn-right, other-wrong, block-meets}
 use Rattle.deck_convert.proofs.Convert.convert_block.Statement.{statement}
 use Rattle.deck_convert.proofs.Convert.convert_block.Tie as tie

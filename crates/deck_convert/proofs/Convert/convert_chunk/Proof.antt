@@ -1,8 +1,7 @@
 -- What is converted and what is left make the whole; the measure is how many bytes are left.
-use Prim.Native.Nat.{ℕ, _+_, _-_, _≤_, _<_, min}
-use mathlib.Core.Path.{_≡_, refl, ap, _∙_}
+use Prim.Native.Nat.{_-_, _≤_, _<_}
+use mathlib.Core.Path.{refl}
 use native.Mathlib.Omega.{arith}
-use borrow.Author.Needs.{needs}
 use denote.Ref.{now}
 use lib.ListN.{length, length-take, length-drop}
 use Rattle.deck_convert.proofs.Laws.{OnTheWay, begins, ends, goes-on}
