@@ -1,11 +1,11 @@
 -- Programs that the contracts rule out, whatever their proofs: each answer is refuted at a named chunk.
-use Prim.Native.Nat.{ℕ}
-use mathlib.Core.Path.{_≡_, refl, ap, ap₂, _∙_}
+use Prim.Native.Nat.{ℕ, _+_, _*_, _/_, _%_}
+use mathlib.Core.Path.{_≡_, refl, ap, ap₂, sym, _∙_}
 use mathlib.Core.Bool.{Bool, true, false}
 use mathlib.Core.List.{List, [], _∷_, _++_, append-nil}
 use native.Mathlib.Omega.{arith}
 use borrow.Author.Tests.{eq-eqb}
-use lib.Dec.{lit≤, lit<}
+use lib.Dec.{lit≤, lit<, eqb}
 use lib.ListN.{length, drop, getD, replicate}
 use Rattle.promise.specs.Bytes.{lowFirst, highFirst, fromLow, fromHigh}
 use Rattle.crc.specs.Check.{bitStep, bitsStep, byteStep, crcOver}
@@ -47,6 +47,31 @@ marked-body = 13 ∷ 0 ∷ 0 ∷ 0 ∷ 0 ∷ 0 ∷ 0 ∷ 0 ∷ 1 ∷ replicate 5
 abbrev marked : List ℕ
 marked = withCheck 1 marked-body
 
+-- the checks that are met below, each worked out once
+new-check : blockCheck 1 (body 12) ≡ 0xf2f3
+unfolding blockCheck highFirst lowFirst crcOver byteStep bitsStep bitStep
+new-check = refl
+
+old-check : blockCheck 1 (body 13) ≡ 0xa9b2
+unfolding blockCheck highFirst lowFirst crcOver byteStep bitsStep bitStep
+old-check = refl
+
+check-before : blockCheck 0 (body 12) ≡ 0x586d
+unfolding blockCheck highFirst lowFirst crcOver byteStep bitsStep bitStep
+check-before = refl
+
+check-behind : blockCheck 2 (body 12) ≡ 0x1d70
+unfolding blockCheck highFirst lowFirst crcOver byteStep bitsStep bitStep
+check-behind = refl
+
+first-of-12 : firstCheck (body 12) ≡ 0xc3d8
+unfolding crcOver byteStep bitsStep bitStep
+first-of-12 = refl
+
+first-of-13 : firstCheck (body 13) ≡ 0x9899
+unfolding crcOver byteStep bitsStep bitStep
+first-of-13 = refl
+
 -- one block alone
 module _ (c : Convert) (block : List ℕ) (long : length block ≡ blockLength) where
   bytes-of : convertAll (c .tag) block ≡ convertBlock (tagAfter (c .tag)) block
@@ -67,21 +92,27 @@ unfolding fieldsOf highFirst lowFirst
 right-turned tag = by-check tag (sealed tag 13) (lit≤ tt) refl true (is-right tag)
 
 bad-left : (isConverted 1 bad ≡ false) × (isLeft 1 bad ≡ true)
-unfolding fieldsOf blockCheck highFirst lowFirst fromHigh fromLow crcOver byteStep bitsStep bitStep
-bad-left = by-check 1 bad (lit≤ tt) refl false refl
+unfolding fieldsOf blockCheck fromHigh fromLow
+bad-left = by-check 1 bad (lit≤ tt) refl false (ap (eqb 0) old-check)
 
 old-left : (isConverted 1 old ≡ false) × (isLeft 1 old ≡ true)
-unfolding fieldsOf blockCheck highFirst lowFirst fromHigh fromLow crcOver byteStep bitsStep bitStep
-old-left = by-check 1 old (lit≤ tt) refl false refl
+unfolding fieldsOf blockCheck highFirst lowFirst fromHigh fromLow
+old-left = by-check 1 old (lit≤ tt) refl false (ap₂ (λ (c d : ℕ). eqb (c % 256 + 256 * (c / 256 % 256 + 256 * 0)) d) first-of-13 old-check)
 
 other-stays : (kind : ℕ) → (kind ≡ 13 → ⊥) → (isConverted 1 (sealed 1 kind) ≡ false) × (isLeft 1 (sealed 1 kind) ≡ false)
 unfolding fieldsOf highFirst lowFirst
 other-stays kind other = other-neither 1 (sealed 1 kind) (lit≤ tt) other
 
 -- what the contract says of each
-right-comes : convertAll 0 right ≡ asUpload 1 right
+right-comes : convertAll 0 right ≡ body 12 ++ highFirst 2 0xf2f3
+unfolding blockCheck highFirst lowFirst
+right-comes =
+    bytes-of newConvert right refl ∙ turns 1 right (right-turned 1 .0) ∙ ap (λ (c : ℕ). body 12 ++ (c / 256 % 256 ∷ c % 256 ∷ [])) new-check
+
+-- a block of kind 12 with another check than that
+another-check : (c k : ℕ) → c ≡ k → (k / 256 % 256 ≡ 0xf2 → ⊥) → body 12 ++ highFirst 2 c ≡ convertAll 0 right → ⊥
 unfolding highFirst lowFirst
-right-comes = bytes-of newConvert right refl ∙ turns 1 right (right-turned 1 .0)
+another-check c k is other leaves = other (ap (λ (n : ℕ). n / 256 % 256) (sym is) ∙ ap (λ (l : List ℕ). getD l 510 0) (leaves ∙ right-comes))
 
 marked-comes : convertAll 0 marked ≡ asUpload 1 marked
 unfolding fieldsOf highFirst lowFirst
@@ -104,22 +135,22 @@ takes-the-first-check r m = let z : _≡_ {A = ℕ} 12 13 = ap (λ (l : List ℕ
 
 -- the old check kept, or the new one made before the kind was changed: the kind alone is another
 pub keeps-the-old-check : (r : Convert) → ConvertMeets r (12 ∷ drop 1 right) right newConvert → ⊥
-unfolding blockCheck highFirst lowFirst crcOver byteStep bitsStep bitStep
-keeps-the-old-check r m = let z : _≡_ {A = ℕ} 0xa9 0xf2 = ap (λ (l : List ℕ). getD l 510 0) (m .leaves ∙ right-comes) in omega arith
+unfolding blockCheck highFirst lowFirst
+keeps-the-old-check r m = another-check (blockCheck 1 (body 13)) 0xa9b2 old-check (λ e. omega arith) (m .leaves)
 
 -- the place forgotten: the new check is the first one
 pub forgets-the-place : (r : Convert) → ConvertMeets r (body 12 ++ highFirst 2 (firstCheck (body 12))) right newConvert → ⊥
-unfolding blockCheck highFirst lowFirst crcOver byteStep bitsStep bitStep
-forgets-the-place r m = let z : _≡_ {A = ℕ} 0xc3 0xf2 = ap (λ (l : List ℕ). getD l 510 0) (m .leaves ∙ right-comes) in omega arith
+unfolding blockCheck highFirst lowFirst
+forgets-the-place r m = another-check (firstCheck (body 12)) 0xc3d8 first-of-12 (λ e. omega arith) (m .leaves)
 
 -- the new check made for another place: for the block before, and for the next
 pub place-before : (r : Convert) → ConvertMeets r (sealed 0 12) right newConvert → ⊥
-unfolding blockCheck highFirst lowFirst crcOver byteStep bitsStep bitStep
-place-before r m = let z : _≡_ {A = ℕ} 0x58 0xf2 = ap (λ (l : List ℕ). getD l 510 0) (m .leaves ∙ right-comes) in omega arith
+unfolding blockCheck highFirst lowFirst
+place-before r m = another-check (blockCheck 0 (body 12)) 0x586d check-before (λ e. omega arith) (m .leaves)
 
 pub place-behind : (r : Convert) → ConvertMeets r (sealed 2 12) right newConvert → ⊥
-unfolding blockCheck highFirst lowFirst crcOver byteStep bitsStep bitStep
-place-behind r m = let z : _≡_ {A = ℕ} 0x1d 0xf2 = ap (λ (l : List ℕ). getD l 510 0) (m .leaves ∙ right-comes) in omega arith
+unfolding blockCheck highFirst lowFirst
+place-behind r m = another-check (blockCheck 2 (body 12)) 0x1d70 check-behind (λ e. omega arith) (m .leaves)
 
 -- doing nothing
 pub left-as-it-was : (r : Convert) → ConvertMeets r right right newConvert → ⊥
