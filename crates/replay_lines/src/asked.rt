@@ -96,9 +96,9 @@ fn of_call(call: u64) -> Wanted {
         CTL => Wanted(U8, U8, U16, U16, LEN),
         ARE => Wanted(U16, 0, 0, 0, 0),
         RUN | URN => Wanted(U32, 0, 0, 0, 0),
-        UPL => Wanted(U16, 1, 0, 0, IMAGE),
-        ALL => Wanted(U16, 1, 0, 0, LISTED),
-        CUT => Wanted(U16, 1, 2047, 0, LISTED),
+        UPL => Wanted(U16, 0, 0, 0, IMAGE),
+        ALL => Wanted(U16, 0, 0, 0, LISTED),
+        CUT => Wanted(U16, 2047, 0, 0, LISTED),
         CRD | SRD | SMP | STO | CHP | FID | FIN | CAP => Wanted(0, 0, 0, 0, LEN),
         CNV | GIV | BWR => Wanted(0, 0, 0, 0, LEN),
         BLK => Wanted(0, 0, 0, 0, BLOCK),
@@ -248,7 +248,7 @@ pub fn ask(line: &[u8], data: &mut [u8]) -> Asked {
     let b = argument(line, a, wanted.1);
     let c = argument(line, b, wanted.2);
     let d = argument(line, c, wanted.3);
-    let last = past_sizes(line, d, name.value, c.value);
+    let last = past_sizes(line, d, name.value, b.value);
     let asked = Asked {
         call: name.value,
         room: room.as_usize(),

@@ -5,7 +5,6 @@ use maskrom::UploadStep;
 use maskrom::WholeStart;
 use maskrom::WholeUpload;
 use maskrom::write_area;
-use maskrom::write_area_no_crc;
 use replay_answers::out::value;
 use replay_answers::told::Answer;
 use replay_answers::told::Told;
@@ -33,14 +32,6 @@ pub struct Uploaded {
     pub upload: Upload,
 }
 
-pub fn begun(area: u16, is_checked: bool, image: &[u8]) -> WholeStart {
-    if is_checked {
-        write_area(area, image)
-    } else {
-        write_area_no_crc(area, image)
-    }
-}
-
 pub fn upload_of(is_there: bool, record: WholeUpload, length: usize) -> Upload {
     Upload {
         is_there,
@@ -50,7 +41,7 @@ pub fn upload_of(is_there: bool, record: WholeUpload, length: usize) -> Upload {
 }
 
 pub fn no_upload() -> Upload {
-    let begun = begun(0, false, b"");
+    let begun = write_area(0, b"");
     upload_of(false, begun.upload, 0)
 }
 
@@ -77,7 +68,7 @@ fn start(asked: Asked, bytes: &[u8], image: &mut [u8]) -> Uploaded {
         return answered(outside(), no_upload());
     }
     copy(bytes, image);
-    started(begun(as_u16(asked.a), asked.b == 1, bytes), asked.len)
+    started(write_area(as_u16(asked.a), bytes), asked.len)
 }
 
 fn control_told(control: Control) -> Told {

@@ -5,6 +5,7 @@ use maskrom::PartStep;
 use maskrom::UploadStart;
 use maskrom::UploadStep;
 use maskrom::WholeUpload;
+use maskrom::write_area;
 use replay_answers::out::spaced_bytes;
 use replay_answers::out::value;
 use replay_answers::told::Answer;
@@ -19,7 +20,6 @@ use replay_lines::buffer::between;
 use replay_lines::line::Token;
 use replay_lines::line::as_u16;
 use replay_lines::line::number;
-use replay_steps::uploads::begun;
 
 // more turns than any list of transfers takes
 const TURNS: u64 = 1000000000;
@@ -118,7 +118,7 @@ fn list_answer(list: List) -> Answer {
 
 // `all`
 pub(crate) fn all(asked: Asked, bytes: &[u8], text: &mut [u8]) -> Answer {
-    let begun = begun(as_u16(asked.a), asked.b == 1, bytes);
+    let begun = write_area(as_u16(asked.a), bytes);
     let outcome = begun.start;
     match outcome {
         UploadStart::Started => list_answer(whole_list(begun.upload, bytes, text)),
@@ -225,12 +225,8 @@ fn next_cut(line: &[u8], first: usize, count: u64, image: &[u8], text: &mut [u8]
     next_part(line, first, count, image.len(), cut)
 }
 
-fn new_cut(area: u16, is_checked: bool, first: usize) -> Cut {
-    let record = if is_checked {
-        MaskRomOperation::new(area)
-    } else {
-        MaskRomOperation::new_no_crc(area)
-    };
+fn new_cut(area: u16, first: usize) -> Cut {
+    let record = MaskRomOperation::new(area);
     let list = empty_list();
     Cut {
         record,
@@ -262,8 +258,8 @@ fn cut_steps(
 
 // `cut`. The close after the last one must be the finish again.
 pub(crate) fn cut_up(line: &[u8], asked: Asked, bytes: &[u8], text: &mut [u8]) -> Answer {
-    let start = new_cut(as_u16(asked.a), asked.b == 1, asked.place);
-    let cut = cut_steps(line, asked.place, asked.c, bytes, text, start);
+    let start = new_cut(as_u16(asked.a), asked.place);
+    let cut = cut_steps(line, asked.place, asked.b, bytes, text, start);
     let last = close(text, cut);
     list_answer(last.list)
 }

@@ -44,8 +44,10 @@ pub struct Count {
     /// Calls that the Rust does not have in the rules' domain, by why.
     pub outside: BTreeMap<Reason, usize>,
     pub differences: usize,
-    /// Lines that were not of the language, and panics that were not expected.
+    /// Lines that were not of the language, panics that were not expected, and uploads without a check that were apart.
     pub complaints: usize,
+    /// Images whose upload without a check was held to the one with it.
+    pub images: usize,
     /// Calls that the Rust's side answered with each of `COUNTED`.
     pub met: [usize; COUNTED.len()],
     /// Calls whose sector operation moved fewer bytes than asked, by the Rust's side.
@@ -63,6 +65,7 @@ impl Count {
         }
         self.differences += other.differences;
         self.complaints += other.complaints;
+        self.images += other.images;
         for (n, more) in self.met.iter_mut().zip(other.met) {
             *n += more;
         }
@@ -125,8 +128,7 @@ fn compare_batches(from: Receiver<Arc<Vec<Case>>>, answers: &mut impl BufRead) -
     for batch in from.iter() {
         for case in batch.iter() {
             if !compare_case(&mut oracle, answers, case, &mut ours, &mut count)? {
-                count.complaints += oracle.complaints().len();
-                return Ok(count);
+                return Ok(asked_of(&oracle, count));
             }
         }
     }
@@ -134,8 +136,12 @@ fn compare_batches(from: Receiver<Arc<Vec<Case>>>, answers: &mut impl BufRead) -
         println!("the program answered more lines than it was asked");
         count.differences += 1;
     }
-    count.complaints += oracle.complaints().len();
-    Ok(count)
+    Ok(asked_of(&oracle, count))
+}
+
+/// The count with what this oracle has kept.
+fn asked_of(oracle: &Oracle, count: Count) -> Count {
+    Count { complaints: oracle.complaints().len(), images: oracle.images(), ..count }
 }
 
 /// The number of an answer; before that of a block stands the block's own.
@@ -144,7 +150,7 @@ fn number<'a>(line: &str, answer: &'a str) -> Option<&'a str> {
 }
 
 /// Whether the program still answers.
-fn compare_case(
+pub fn compare_case(
     oracle: &mut Oracle,
     answers: &mut impl BufRead,
     case: &Case,
@@ -219,8 +225,16 @@ pub fn print_count(name: &str, count: &Count) {
     let outside: usize = count.outside.values().sum();
     println!("{name}cases {cases}, calls {calls}, outside {outside}, differences {differences}");
     if *complaints > 0 {
-        println!("{name}{complaints} lines were not of the language, or panics that were not expected");
+        println!(
+            "{name}{complaints} lines were not of the language, panics that were not expected, or uploads without a check \
+             that were apart"
+        );
     }
+}
+
+/// How many uploads without a check were held to the ones with it.
+pub fn print_images(name: &str, images: usize) {
+    println!("{name}without a check too {images} images");
 }
 
 /// Whether no reason is above its bound.
@@ -248,8 +262,12 @@ pub fn compare(program: &str, kinds: &[Kind], seed: u64, count: usize) -> io::Re
         print_found(program, &counted)?;
         print_count(&format!("{}: ", kind.name()), &counted);
         all_kept &= print_outside(*kind, &counted);
+        if counted.images > 0 {
+            print_images(&format!("{}: ", kind.name()), counted.images);
+        }
         all.add(counted);
     }
+    print_images("", all.images);
     print_count("", &all);
     Ok(all_kept && all.is_good())
 }

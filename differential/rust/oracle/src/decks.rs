@@ -1,5 +1,5 @@
 //! The current deck: the Rust's default device, and blocks dealt to it. What the Rust has none of is worked out here
-//! from the rules: the block's number and tag, and 40 to 45.
+//! from the rules: the block's number and tag, and 40 to 46.
 
 use std::ops::Range;
 
@@ -7,6 +7,7 @@ use crate::{
     operations,
     stand::Stand,
     text::{Answer, Reason, Stop, Tokens, hex},
+    unchecked::Beside,
 };
 
 pub const BLOCK: usize = 512;
@@ -16,6 +17,8 @@ const STORE: usize = 65_536;
 const MOST_SECTORS: u16 = 16;
 const MOST_IMAGE: u32 = 8_192;
 const MOST_RESET: u8 = 4;
+/// Upload without a check.
+const WITHDRAWN: u8 = 13;
 
 /// CRC-16/IBM-3740 of parts one after the other, bit by bit.
 pub fn check(parts: [&[u8]; 2]) -> u16 {
@@ -71,7 +74,10 @@ fn read(tag: u32, block: &[u8]) -> Result<Fields, u8> {
         return Err(40);
     }
     let asks = fields(block);
-    if !(1..=13).contains(&asks.kind) {
+    if asks.kind == WITHDRAWN {
+        return Err(46);
+    }
+    if !(1..=12).contains(&asks.kind) {
         return Err(41);
     }
     if block[8..CHECKED].iter().any(|byte| *byte != 0) {
@@ -79,7 +85,7 @@ fn read(tag: u32, block: &[u8]) -> Result<Fields, u8> {
     }
     let is_long = match asks.kind {
         7 | 8 => asks.half > MOST_SECTORS,
-        12 | 13 => asks.word > MOST_IMAGE,
+        12 => asks.word > MOST_IMAGE,
         _ => false,
     };
     if is_long {
@@ -134,17 +140,17 @@ impl Deck {
         format!("0 | {}", self.stand.show())
     }
 
-    fn carry_out(&mut self, asks: &Fields) -> Result<String, Stop> {
+    fn carry_out(&mut self, asks: &Fields, beside: &mut Beside) -> Result<String, Stop> {
         let Fields { kind, word, half, byte } = *asks;
-        if kind >= 12 {
-            let image = format!("{half} {} f {word} {byte}", u8::from(kind == 12));
-            return Ok(operations::start_upload(&mut Tokens::new(&image))?.ended(&mut self.stand));
+        if kind == 12 {
+            let image = format!("{half} f {word} {byte}");
+            return Ok(operations::start_upload(&mut Tokens::new(&image), beside)?.ended(&mut self.stand));
         }
         let start = operation(asks, self.tag);
         Ok(operations::start(&mut Tokens::new(&start))?.ended(&mut self.stand))
     }
 
-    pub fn deal(&mut self, tokens: &mut Tokens) -> Answer {
+    pub fn deal(&mut self, tokens: &mut Tokens, beside: &mut Beside) -> Answer {
         let block = tokens.data()?;
         tokens.end()?;
         if block.len() > BLOCK {
@@ -157,7 +163,7 @@ impl Deck {
         self.number += 1;
         self.tag = self.tag.wrapping_add(1);
         let came = match read(self.tag, &block) {
-            Ok(asks) => value(asks.kind, &self.carry_out(&asks)?),
+            Ok(asks) => value(asks.kind, &self.carry_out(&asks, beside)?),
             Err(refusal) => format!("{refusal} -"),
         };
         Ok(format!("{} {came}", self.number))

@@ -16,6 +16,7 @@ mod selftest;
 mod smallest;
 mod stand;
 mod text;
+mod unchecked;
 mod values;
 
 use std::{

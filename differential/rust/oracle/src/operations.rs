@@ -3,7 +3,7 @@
 use std::marker::PhantomData;
 
 use rockusb::{
-    operation::{MaskRomOperation, OperationSteps, Transferred, UsbOperationError, UsbStep},
+    operation::{OperationSteps, Transferred, UsbOperationError, UsbStep},
     protocol::{COMMAND_BLOCK_BYTES, Capability, ChipInfo, FlashId, FlashInfo, StorageIndex},
 };
 
@@ -11,6 +11,7 @@ use crate::{
     refusals::operation_refusal,
     stand::{Room, Stand},
     text::{Answer, Reason, Stop, Tokens, show},
+    unchecked::Beside,
     values::{flash_id_bytes, long_enough, output, reset_opcode, show_index, storage_index, whole_sectors},
 };
 
@@ -334,22 +335,18 @@ pub struct Upload {
     _image: Lent,
 }
 
-pub fn start_upload(tokens: &mut Tokens) -> Result<Upload, Stop> {
+pub fn start_upload(tokens: &mut Tokens, beside: &mut Beside) -> Result<Upload, Stop> {
     let area = tokens.u16()?;
-    let check = tokens.flag()?;
     let image = tokens.data()?;
     tokens.end()?;
-    Ok(upload_of(area, check, image))
+    Ok(upload_of(area, image, beside))
 }
 
-fn upload_of(area: u16, check: bool, image: Vec<u8>) -> Upload {
+/// The upload of an image; the one without a check is looked at beside it.
+fn upload_of(area: u16, image: Vec<u8>, beside: &mut Beside) -> Upload {
     let image = Lent::new(image);
-    let operation: MaskRomOperation<'static> = if check {
-        rockusb::operation::write_area(area, image.bytes())
-    } else {
-        rockusb::operation::write_area_no_crc(area, image.bytes())
-    };
-    Upload { steps: typed(operation), area, _image: image }
+    beside.look(area, image.bytes());
+    Upload { steps: typed(rockusb::operation::write_area(area, image.bytes())), area, _image: image }
 }
 
 pub const UPLOAD_OUTPUT: usize = 4096;
@@ -400,16 +397,15 @@ fn finished(result: Result<String, UsbOperationError>) -> String {
     }
 }
 
-pub fn whole_list(tokens: &mut Tokens) -> Answer {
-    Ok(start_upload(tokens)?.list())
+pub fn whole_list(tokens: &mut Tokens, beside: &mut Beside) -> Answer {
+    Ok(start_upload(tokens, beside)?.list())
 }
 
 const CUT_LIMIT: u64 = 16;
 
 /// The Rust has no part-wise upload; the third demand says that every cut gives the whole upload's list.
-pub fn cut_list(tokens: &mut Tokens) -> Answer {
+pub fn cut_list(tokens: &mut Tokens, beside: &mut Beside) -> Answer {
     let area = tokens.u16()?;
-    let check = tokens.flag()?;
     let count = tokens.up_to(CUT_LIMIT)?;
     let mut some = false;
     for _ in 0..count {
@@ -420,5 +416,5 @@ pub fn cut_list(tokens: &mut Tokens) -> Answer {
     if !some {
         return Err(Stop(Reason::Unreadable));
     }
-    Ok(upload_of(area, check, image).list())
+    Ok(upload_of(area, image, beside).list())
 }

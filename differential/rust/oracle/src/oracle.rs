@@ -11,6 +11,7 @@ use crate::{
     operations::{self, Operation, Upload},
     stand::{self, Stand},
     text::{Answer, Reason, Stop, Tokens},
+    unchecked::{Beside, Start},
 };
 
 const OUTSIDE: &str = "outside ";
@@ -46,6 +47,7 @@ pub struct Oracle {
     upload: Option<Upload>,
     device: Option<Stand>,
     deck: Option<Deck>,
+    beside: Beside,
     complaints: Vec<String>,
     is_quiet: bool,
 }
@@ -56,7 +58,18 @@ impl Oracle {
         Oracle { is_quiet: true, ..Oracle::default() }
     }
 
-    /// Lines that were not of the language, and panics that were not expected.
+    /// With another upload in place of the Rust's without a check; quiet too.
+    pub fn with_unchecked(start: Start) -> Oracle {
+        Oracle { beside: Beside::of(start), ..Oracle::quiet() }
+    }
+
+    /// Images whose upload without a check was looked at.
+    pub fn images(&self) -> usize {
+        self.beside.images()
+    }
+
+    /// Lines that were not of the language, panics that were not expected, and uploads without a check that are not as the
+    /// checked ones say.
     pub fn complaints(&self) -> &[String] {
         &self.complaints
     }
@@ -70,7 +83,7 @@ impl Oracle {
 
     pub fn answer(&mut self, line: &str) -> String {
         match caught(|| self.call(line)) {
-            Ok(Ok(answer)) => answer,
+            Ok(Ok(answer)) => self.held(line, answer),
             Ok(Err(Stop(reason))) => {
                 if reason == Reason::Unreadable {
                     self.complain(format!("not of the language: {line}"));
@@ -78,12 +91,22 @@ impl Oracle {
                 format!("{OUTSIDE}{}", reason.word())
             }
             Err(text) => {
-                let (complaints, is_quiet) = (std::mem::take(&mut self.complaints), self.is_quiet);
-                *self = Oracle { complaints, is_quiet, ..Oracle::default() };
+                let (complaints, beside) =
+                    (std::mem::take(&mut self.complaints), std::mem::take(&mut self.beside));
+                *self = Oracle { complaints, beside, is_quiet: self.is_quiet, ..Oracle::default() };
                 self.complain(format!("a panic that was not expected: {line}: {text}"));
                 PANIC.into()
             }
         }
+    }
+
+    /// The answer; where the upload without a check is not as it must be that is told instead, which no program answers.
+    fn held(&mut self, line: &str, answer: String) -> String {
+        let Some(apart) = self.beside.told() else {
+            return answer;
+        };
+        self.complain(format!("{line}: {apart}"));
+        apart
     }
 
     /// None where the start was refused, or had no answer.
@@ -126,13 +149,13 @@ impl Oracle {
             "giv" => there(&mut self.operation)?.give(tokens),
             "run" => there(&mut self.operation)?.run(tokens, there(&mut self.device)?),
             "upl" => {
-                self.upload = Some(operations::start_upload(tokens)?);
+                self.upload = Some(operations::start_upload(tokens, &mut self.beside)?);
                 Ok("0".into())
             }
             "ust" => there(&mut self.upload)?.step(tokens),
             "urn" => there(&mut self.upload)?.run(tokens, there(&mut self.device)?),
-            "all" => operations::whole_list(tokens),
-            "cut" => operations::cut_list(tokens),
+            "all" => operations::whole_list(tokens, &mut self.beside),
+            "cut" => operations::cut_list(tokens, &mut self.beside),
             "dvd" => {
                 let (device, answer) = stand::start_default(tokens)?;
                 self.device = Some(device);
@@ -150,7 +173,7 @@ impl Oracle {
                 self.deck = Some(deck);
                 Ok(answer)
             }
-            "blk" => there(&mut self.deck)?.deal(tokens),
+            "blk" => there(&mut self.deck)?.deal(tokens, &mut self.beside),
             "dev" => there(&mut self.deck)?.device(tokens),
             _ => Err(Stop(Reason::Unreadable)),
         }

@@ -10,7 +10,7 @@ use std::{
 
 use crate::{
     cases::{Draws, Kind, device, make::Rng, uploads},
-    compare::{COUNTED, Cases, Count, compare_cases, print_count, print_found, print_outside},
+    compare::{COUNTED, Cases, Count, compare_cases, print_count, print_found, print_images, print_outside},
 };
 
 /// Random calls of each kind. Of uploads there are those of every length beside these.
@@ -40,6 +40,9 @@ const MET: [(Kind, &[&str]); 4] =
 
 /// Kinds that finish operations.
 const FINISHING: [Kind; 5] = [Kind::Operations, Kind::Runs, Kind::Nor, Kind::Decks, Kind::Sizes];
+
+/// Kinds that upload.
+const UPLOADING: [Kind; 6] = [Kind::Runs, Kind::Nor, Kind::Uploads, Kind::Large, Kind::Decks, Kind::Sizes];
 
 /// Short transfers that `operations` has at least.
 pub const LEAST_SHORT: usize = 10_000;
@@ -150,8 +153,9 @@ fn work(
     }
 }
 
-/// Whether there was no difference, no reason for `outside` above its bound and, where all is asked, every refusal that
-/// has to be met and short transfers where they have to be, and there alone. `share` takes one in so many of the calls.
+/// Whether there was no difference, no reason for `outside` above its bound, images without a check in every kind that
+/// uploads and, where all is asked, every refusal that has to be met and short transfers where they have to be, and there
+/// alone. `share` takes one in so many of the calls.
 pub fn scale(programs: &Programs, seed: u64, share: usize) -> io::Result<bool> {
     println!("seed {seed}");
     let began = Instant::now();
@@ -200,6 +204,15 @@ fn is_short_by_hand(kind: Kind, count: &Count) -> bool {
     wrong.is_none()
 }
 
+/// Whether a kind that uploads had images without a check, and no other had one.
+fn has_images(kind: Kind, images: usize) -> bool {
+    let is_uploading = UPLOADING.contains(&kind);
+    if is_uploading {
+        print_images(&format!("{}: ", kind.name()), images);
+    }
+    is_uploading == (images > 0)
+}
+
 fn report(
     programs: &Programs,
     share: usize,
@@ -219,9 +232,11 @@ fn report(
         all_kept &= print_outside(kind, &count);
         all_kept &= share > 1 || has_met_all(kind, &count);
         all_kept &= share > 1 || is_short_by_hand(kind, &count);
+        all_kept &= has_images(kind, count.images);
         all.add(count);
     }
     println!("{} seconds", took.as_secs());
+    print_images("", all.images);
     print_count("", &all);
     Ok(all_kept && all.is_good())
 }

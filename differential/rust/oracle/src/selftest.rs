@@ -1,6 +1,7 @@
 //! Shows that each part works, and prints the faults of the Rust that the rules refuse.
 
 mod nor;
+mod unchecked;
 
 use std::{collections::BTreeMap, fs, io};
 
@@ -36,6 +37,9 @@ pub fn selftest(page: &str) -> io::Result<bool> {
         ("generated cases are of the language", generated()),
         ("samples hold no `outside` and answer as in their full cases", samples()),
         ("a block's check is that of its place alone", places()),
+        ("kind 13 is 46, behind 40 and before 42 and 43", unchecked::withdrawn()),
+        ("the Rust's upload without a check is its checked one with 00 00 for the check", unchecked::held()),
+        ("an upload without a check that is apart is a difference", unchecked::planted()),
         ("58 and 59 leave the device and the upload as the rules say", refused_by_the_store()),
         ("cases reach 65,536 sectors, data of 65,535 and a budget of 10,000", reached()),
         ("a reason above its bound fails a run, and so does a panic", bounded()),
@@ -86,7 +90,7 @@ fn examples(page: &str) -> Vec<String> {
     bad
 }
 
-/// P1, P3 to P14; P2 by an image of `123456789`.
+/// P1, P3, P9 to P14; P2 by an image of `123456789`. P4 to P8 are uploads without a check.
 fn documented() -> Vec<String> {
     let mut bad = Vec::new();
     let mut oracle = Oracle::default();
@@ -95,13 +99,8 @@ fn documented() -> Vec<String> {
             "cwr 31 0 rdl 16909060 64 2",
             "0 31 | 31:55534243010203040004000080000a14000000004000000200000000000000",
         ),
-        ("all 1 1 x313233343536373839", "0 1 64 12 0 1 11:31323334353637383929b1"),
-        ("all 1 1 x", "0 1 64 12 0 1 2:ffff"),
-        ("all 1 0 x", "0 1 64 12 0 1 2:0000"),
-        ("all 1 0 f 4093 0", "0 1 64 12 0 1 4095#4c15e8c3"),
-        ("all 1 0 f 4094 0", "0 2 64 12 0 1 4096#8af9dada 64 12 0 1 1:00"),
-        ("all 1 0 f 4095 0", "0 2 64 12 0 1 4096#8af9dada 64 12 0 1 2:0000"),
-        ("all 1 0 f 4096 0", "0 2 64 12 0 1 4096#8af9dada 64 12 0 1 2:0000"),
+        ("all 1 x313233343536373839", "0 1 64 12 0 1 11:31323334353637383929b1"),
+        ("all 1 x", "0 1 64 12 0 1 2:ffff"),
         ("sto x02000000", "0 1 1"),
         ("sto x00000080", "0 0 31"),
         ("sto x03000000", "14"),
@@ -208,7 +207,7 @@ fn refused_by_the_store() -> Vec<String> {
     let mut oracle = Oracle::default();
     for (line, wanted) in [
         ("dvc 32768 1 f 16 0 f 5 0 f 8 0 f 5 0 x", "0 | 0: | 0 | 0"),
-        ("upl 5 1 r 4096 0", "0"),
+        ("upl 5 r 4096 0", "0"),
         ("urn 9", "59 | 2 | 0: | 1 5 4096#c2db809d | 0"),
         ("ust 4096 0", "0 3 | 4096#8af9dada"),
         ("ctl 64 12 0 5 x", "0 | 0: | 1 5 4096#c2db809d | 0"),

@@ -123,6 +123,7 @@ fn refused() -> Vec<Block> {
     let mut blocks = vec![block(8, 5, 1, 7)];
     for (kind, word, half, byte) in [
         (0, 0, 0, 0),
+        (13, 9, 1, 1),
         (14, 0, 0, 0),
         (255, 0, 0, 0),
         (7, 0, 17, 0),
@@ -138,7 +139,7 @@ fn refused() -> Vec<Block> {
         blocks.push(block(kind, word, half, byte));
     }
     for at in [8, 9, 255, 256, 508, 509] {
-        for kind in [8, 0, 9] {
+        for kind in [8, 0, 9, 13] {
             let mut block = block(kind, 1, 17, 9);
             block.bytes[at] = 1;
             blocks.push(block);
@@ -146,36 +147,38 @@ fn refused() -> Vec<Block> {
     }
     for at in [0, 7, 8, 509, 510, 511] {
         blocks.push(Block { flipped: Some((at, 1)), ..block(8, 5, 1, 9) });
+        blocks.push(Block { flipped: Some((at, 1)), ..block(13, 5, 1, 9) });
     }
     blocks
 }
 
-/// Eight areas, then a ninth (58); what is held still grows.
+/// Eight areas, then a ninth (58); what is held still grows, but not by an upload without a check (46).
 fn full_areas() -> Vec<Block> {
     let mut blocks: Vec<_> =
         [9, 1, 65_535, 0, 3, 700, 2, 8].map(|area| block(12, u32::from(area) % 11, area, 0x5a)).into();
-    blocks.extend([block(12, 0, 4, 1), block(13, 8_192, 5, 1), block(13, 5, 700, 2), block(12, 0, 4, 1)]);
+    blocks.extend([block(12, 0, 4, 1), block(12, 8_192, 5, 1), block(12, 5, 700, 2), block(12, 0, 4, 1)]);
+    blocks.push(block(13, 5, 700, 2));
     blocks
 }
 
 /// To the slot's last byte, past it (59), and images that do not fit in an empty one: their first transfers stay.
 fn one_area_filled() -> Vec<Block> {
     let mut blocks = Vec::new();
-    for (kind, length, area) in [
-        (13, 8_190, 1),
-        (12, 0, 1),
-        (12, 8_189, 2),
-        (13, 0, 2),
-        (12, 8_191, 3),
-        (13, 8_192, 4),
-        (12, 4_093, 5),
-        (12, 4_094, 5),
-        (13, 4_095, 6),
-        (13, 4_094, 6),
-        (12, 4_096, 7),
-        (12, 4_000, 7),
+    for (length, area) in [
+        (8_190, 1),
+        (0, 1),
+        (8_189, 2),
+        (0, 2),
+        (8_191, 3),
+        (8_192, 4),
+        (4_093, 5),
+        (4_094, 5),
+        (4_095, 6),
+        (4_094, 6),
+        (4_096, 7),
+        (4_000, 7),
     ] {
-        blocks.push(block(kind, length, area, area as u8));
+        blocks.push(block(12, length, area, area as u8));
     }
     blocks
 }
@@ -224,14 +227,15 @@ fn good(rng: &mut Rng) -> Block {
     }
 }
 
-/// To few areas, so that they fill.
+/// To few areas, so that they fill; one in eight without a check.
 fn upload(rng: &mut Rng) -> Block {
     let length = match rng.below(3) {
         0 => rng.pick(&[0, 1, 4_093, 4_094, 4_095, 4_096, 8_188, 8_189, 8_190, 8_191, 8_192, 8_193]),
         1 => rng.below(300),
         _ => rng.below(8_194),
     };
-    block(12 + rng.below(2) as u8, length as u32, rng.below(11) as u16, rng.byte())
+    let kind = if rng.one_in(8) { 13 } else { 12 };
+    block(kind, length as u32, rng.below(11) as u16, rng.byte())
 }
 
 /// One thing wrong, or two.

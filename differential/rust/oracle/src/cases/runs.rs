@@ -62,8 +62,8 @@ fn on_default() -> Case {
     ] {
         lines.extend([format!("opn {op}"), "run 4".into()]);
     }
-    for (area, check, len) in [(1137, 1, 0), (1138, 0, 4094), (1137, 1, 4096), (1138, 0, 3)] {
-        lines.extend([format!("upl {area} {check} r {len} 0"), "urn 100".into()]);
+    for (area, len) in [(1137, 0), (1138, 4094), (1137, 4096), (1138, 3)] {
+        lines.extend([format!("upl {area} r {len} 0"), "urn 100".into()]);
     }
     lines
 }
@@ -133,19 +133,15 @@ pub fn uploads() -> Vec<Case> {
         let needed = len / 4096 + 4;
         let mut lines = vec![configured(65_536, "s 512 1")];
         for budget in 0..needed {
-            lines.extend([
-                format!("upl {} 1 r {len} 7", 10 + budget),
-                format!("urn {budget}"),
-                "urn 9".into(),
-            ]);
+            lines.extend([format!("upl {} r {len} 7", 10 + budget), format!("urn {budget}"), "urn 9".into()]);
         }
         lines.extend(["urn 0", "urn 1", "urn 2"].map(String::from));
-        lines.extend([format!("upl 9 0 f {len} 1"), "urn 1".into(), "ust 4096 0".into(), "urn 9".into()]);
-        lines.extend(["upl 9 1 x0102".into(), "urn 9".into()]);
+        lines.extend([format!("upl 9 f {len} 1"), "urn 1".into(), "ust 4096 0".into(), "urn 9".into()]);
+        lines.extend(["upl 9 x0102".into(), "urn 9".into()]);
         cases.push(lines);
     }
-    let mut full = vec![configured(32_776, "x"), "upl 5 1 f 4093 1".into(), "urn 9".into()];
-    full.extend(["upl 5 1 x".into(), "urn 9".into(), "upl 6 1 x01".into(), "urn 9".into()]);
+    let mut full = vec![configured(32_776, "x"), "upl 5 f 4093 1".into(), "urn 9".into()];
+    full.extend(["upl 5 x".into(), "urn 9".into(), "upl 6 x01".into(), "urn 9".into()]);
     cases.push(full);
     cases
 }
@@ -192,7 +188,7 @@ fn enough(rng: &mut Rng) -> usize {
 pub fn random_upload(rng: &mut Rng, area: usize, lines: &mut Vec<String>) {
     let mut len = rng.pick(&[0, 1, 2, 20, 50, 300, 4093, 4094, 4095, 4096, 5000, 8189]);
     for _ in 0..1 + rng.below(2) {
-        lines.push(format!("upl {area} {} {}", rng.below(2), any_data(rng, len)));
+        lines.push(format!("upl {area} {}", any_data(rng, len)));
         if rng.one_in(8) {
             lines.push(format!("ust 4096 {}", rng.byte()));
         }

@@ -58,9 +58,9 @@ fn largest_by_hand() -> Case {
 /// 10,001 transfers and the finish, with budgets to 10,000; then a slot filled by two more.
 fn long_upload() -> Case {
     let mut lines = vec![configured(STORE, "s 512 1")];
-    lines.extend(["upl 7 1 s 40960000 5".into(), "urn 9999".into(), "urn 1".into(), "urn 10000".into()]);
-    lines.extend(["upl 8 0 r 40960000 5".into(), "urn 10000".into(), "urn 2".into(), "urn 0".into()]);
-    lines.extend(["upl 7 0 f 1000000 1".into(), "urn 10000".into(), "urn 10000".into()]);
+    lines.extend(["upl 7 s 40960000 5".into(), "urn 9999".into(), "urn 1".into(), "urn 10000".into()]);
+    lines.extend(["upl 8 r 40960000 5".into(), "urn 10000".into(), "urn 2".into(), "urn 0".into()]);
+    lines.extend(["upl 7 f 1000000 1".into(), "urn 10000".into(), "urn 10000".into()]);
     lines
 }
 

@@ -9,14 +9,12 @@ const LARGER: [usize; 5] = [20_000, 40_958, 65_535, 65_536, 99_999];
 pub fn exhaustive() -> Vec<Case> {
     let mut cases = Vec::new();
     for len in SIZES {
-        for check in [1, 0] {
-            cases.push(stepped(&format!("upl 1137 {check} r {len} 3"), len, 4096, 0));
-        }
-        cases.push(stepped(&format!("upl 65535 1 f {len} 255"), len, 4097 + len % 3, 170));
+        cases.push(stepped(&format!("upl 1137 r {len} 3"), len, 4096, 0));
+        cases.push(stepped(&format!("upl 65535 f {len} 255"), len, 4097 + len % 3, 170));
         cases.push(lists(&format!("s {len} 5"), len));
     }
     cases.extend(LARGER.map(|len| lists(&format!("s {len} 77"), len)));
-    cases.push(vec!["upl 5 1 r 5000 0".into(), "ust 4095 0".into(), "ust 0 0".into(), "ust 4096 1".into()]);
+    cases.push(vec!["upl 5 r 5000 0".into(), "ust 4095 0".into(), "ust 0 0".into(), "ust 4096 1".into()]);
     cases
 }
 
@@ -41,13 +39,8 @@ fn lists(image: &str, len: usize) -> Case {
         cuts.push(format!("1 {len}"));
         cuts.push(format!("3 {} 1 0", len - 1));
     }
-    let mut lines = vec![format!("all 1138 1 {image}"), format!("all 1138 0 {image}")];
-    for (i, cut) in cuts.iter().enumerate() {
-        lines.push(format!("cut 1138 {} {cut} {image}", i % 2));
-        if len < 8000 {
-            lines.push(format!("cut 1138 {} {cut} {image}", (i + 1) % 2));
-        }
-    }
+    let mut lines = vec![format!("all 1138 {image}")];
+    lines.extend(cuts.iter().map(|cut| format!("cut 1138 {cut} {image}")));
     lines
 }
 
@@ -59,21 +52,21 @@ fn in_single_bytes(len: usize) -> bool {
     len <= 100 || (4092..=4097).contains(&len) || (8190..=8193).contains(&len)
 }
 
-/// One length, checked and unchecked: step by step, as a list, and the same list under several cuts.
+/// Two images of one length: step by step, as a list, and the same list under several cuts.
 pub fn of_every_length(rng: &mut Rng, len: usize) -> Vec<Case> {
     let mut cases = Vec::new();
-    for check in [1, 0] {
+    for _ in 0..2 {
         let area = rng.half();
         let image = any_data(rng, len);
-        cases.push(stepped(&format!("upl {area} {check} {image}"), len, 4096 + rng.below(3), rng.byte()));
-        let mut lines = vec![format!("all {area} {check} {image}")];
+        cases.push(stepped(&format!("upl {area} {image}"), len, 4096 + rng.below(3), rng.byte()));
+        let mut lines = vec![format!("all {area} {image}")];
         let mut cuts = ["1 4095", "1 4096", "1 4097"].map(String::from).to_vec();
         cuts.push(format!("2 {} 0", len / 8 + 1));
         cuts.push(random_cut(rng, len));
         if in_single_bytes(len) {
             cuts.push("1 1".into());
         }
-        lines.extend(cuts.iter().map(|cut| format!("cut {area} {check} {cut} {image}")));
+        lines.extend(cuts.iter().map(|cut| format!("cut {area} {cut} {image}")));
         cases.push(lines);
     }
     cases
@@ -120,15 +113,15 @@ pub fn large(rng: &mut Rng) -> Case {
 
 fn of_length(rng: &mut Rng, blocks: usize) -> Case {
     let len = near_a_block(rng, blocks);
-    let (area, check) = (rng.half(), rng.below(2));
+    let area = rng.half();
     let image = any_data(rng, len);
     if len < 30_000 && rng.one_in(2) {
         let out = 4096 + rng.below(3);
-        return stepped(&format!("upl {area} {check} {image}"), len, out, rng.byte());
+        return stepped(&format!("upl {area} {image}"), len, out, rng.byte());
     }
-    let mut lines = vec![format!("all {area} {check} {image}")];
+    let mut lines = vec![format!("all {area} {image}")];
     for _ in 0..3 {
-        lines.push(format!("cut {area} {check} {} {image}", random_cut(rng, len)));
+        lines.push(format!("cut {area} {} {image}", random_cut(rng, len)));
     }
     lines
 }
