@@ -101,22 +101,18 @@ fn check(image: &Rc<Vec<u8>>, length: usize, update: Update, form: &str) -> Case
 }
 
 /// A whole upload, or one in parts of `size` bytes. The Rust has no parts: its whole upload stands beside them.
-fn upload(image: &Rc<Vec<u8>>, checked: bool, size: Option<usize>) -> Case {
+fn upload(image: &Rc<Vec<u8>>, size: Option<usize>) -> Case {
     let (a, b) = (image.clone(), image.clone());
     let length = image.len();
     let most = u32::MAX;
     let whole = move |image: &[u8], out: &mut [u8]| match size {
-        None => proved::upload_whole(AREA, checked, image, out, most),
-        Some(size) => proved::upload_parts(AREA, checked, size, image, out, most.into()),
+        None => proved::upload_whole(AREA, image, out, most),
+        Some(size) => proved::upload_parts(AREA, size, image, out, most.into()),
     };
     let mut out = vec![0; BLOCK];
     assert_eq!(whole(image, &mut out), 0);
-    assert_eq!(out[..2], original::upload(AREA, checked, image).0);
-    let kind = if checked { "checked" } else { "unchecked" };
-    let name = match size {
-        None => format!("whole, {kind}"),
-        Some(size) => format!("parts of {size}, {kind}"),
-    };
+    assert_eq!(out[..2], original::upload(AREA, image).0);
+    let name = size.map_or("whole".into(), |size| format!("parts of {size}"));
     Case {
         group: "upload of 64 MiB",
         name,
@@ -127,7 +123,7 @@ fn upload(image: &Rc<Vec<u8>>, checked: bool, size: Option<usize>) -> Case {
             black_box(whole(black_box(&a), &mut out));
         }),
         original: Box::new(move || {
-            black_box(original::upload(AREA, checked, black_box(&b)));
+            black_box(original::upload(AREA, black_box(&b)));
         }),
         plain: None,
     }
@@ -260,10 +256,8 @@ pub fn all(scale: Scale) -> Vec<Case> {
         [scale.image, 1, 8, 64, 512].map(|n| check(&image, n, proved::update, "")).into();
     cases
         .extend([scale.image, 1, 8, 64].map(|n| check(&image, n, proved::update_by_table, ", by the table")));
-    for checked in [true, false] {
-        cases.push(upload(&image, checked, None));
-        cases.extend(PARTS.map(|n| upload(&image, checked, Some(n))));
-    }
+    cases.push(upload(&image, None));
+    cases.extend(PARTS.map(|n| upload(&image, Some(n))));
     cases.extend([command_write(), command_read()]);
     let sizes = || SIZES.into_iter().filter(|n| *n < scale.sectors);
     cases.extend(sizes().map(|n| read(&bench, n)));

@@ -55,9 +55,9 @@ fn of_a_block(drive: fn(&[u8], &mut [u8]) -> u8) -> (u64, u64) {
 }
 
 fn main() {
-    let whole = of_a_block(|image, out| proved::upload_whole(0x471, false, image, out, u32::MAX));
-    let filling = of_a_block(|image, out| proved::upload_parts(0x471, false, 4096, image, out, u64::MAX));
-    let eight = of_a_block(|image, out| proved::upload_parts(0x471, false, 512, image, out, u64::MAX));
+    let whole = of_a_block(|image, out| proved::upload_whole(0x471, image, out, u32::MAX));
+    let filling = of_a_block(|image, out| proved::upload_parts(0x471, 4096, image, out, u64::MAX));
+    let eight = of_a_block(|image, out| proved::upload_parts(0x471, 512, image, out, u64::MAX));
     println!("| call | copies | clears |\n|---|---|---|");
     println!("| `WholeUpload::step` with a full block | {} | {} |", whole.0, whole.1);
     println!("| `MaskRomOperation::part` that fills its block from empty | {} | {} |", filling.0, filling.1);

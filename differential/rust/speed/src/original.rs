@@ -39,12 +39,8 @@ fn drive(mut operation: MaskRomOperation<'_>) -> ([u8; 2], u32) {
     (last, transfers)
 }
 
-pub fn upload(area: u16, checked: bool, image: &[u8]) -> ([u8; 2], u32) {
-    if checked {
-        drive(operation::write_area(area, image))
-    } else {
-        drive(operation::write_area_no_crc(area, image))
-    }
+pub fn upload(area: u16, image: &[u8]) -> ([u8; 2], u32) {
+    drive(operation::write_area(area, image))
 }
 
 pub fn command_write(first: u32, sectors: u16, out: &mut [u8]) -> usize {

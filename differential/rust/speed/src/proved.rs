@@ -8,7 +8,6 @@ unsafe extern "C" {
     fn otterarch_crc_update_by_table(crc: u32, bytes: *const u8, length: usize) -> u16;
     fn otterarch_upload_whole(
         area: u32,
-        checked: u32,
         image: *const u8,
         length: usize,
         out: *mut u8,
@@ -17,7 +16,6 @@ unsafe extern "C" {
     ) -> u8;
     fn otterarch_upload_parts(
         area: u32,
-        checked: u32,
         size: usize,
         image: *const u8,
         length: usize,
@@ -53,16 +51,14 @@ pub fn update_by_table(crc: u16, bytes: &[u8]) -> u16 {
     unsafe { otterarch_crc_update_by_table(crc.into(), bytes.as_ptr(), bytes.len()) }
 }
 
-pub fn upload_whole(area: u16, checked: bool, image: &[u8], out: &mut [u8], budget: u32) -> u8 {
+pub fn upload_whole(area: u16, image: &[u8], out: &mut [u8], budget: u32) -> u8 {
     let (room, out) = (out.len(), out.as_mut_ptr());
-    unsafe {
-        otterarch_upload_whole(area.into(), checked.into(), image.as_ptr(), image.len(), out, room, budget)
-    }
+    unsafe { otterarch_upload_whole(area.into(), image.as_ptr(), image.len(), out, room, budget) }
 }
 
-pub fn upload_parts(area: u16, checked: bool, size: usize, image: &[u8], out: &mut [u8], budget: u64) -> u8 {
+pub fn upload_parts(area: u16, size: usize, image: &[u8], out: &mut [u8], budget: u64) -> u8 {
     let (room, out, n) = (out.len(), out.as_mut_ptr(), image.len());
-    unsafe { otterarch_upload_parts(area.into(), checked.into(), size, image.as_ptr(), n, out, room, budget) }
+    unsafe { otterarch_upload_parts(area.into(), size, image.as_ptr(), n, out, room, budget) }
 }
 
 pub fn command_write(tag: u32, first: u32, sectors: u16, out: &mut [u8]) -> u8 {

@@ -27,18 +27,18 @@ extern "C" fn update_by_table() {
 }
 
 extern "C" fn whole() {
-    assert_eq!(proved::upload_whole(0x471, true, &IMAGE, out(), 1), 28);
+    assert_eq!(proved::upload_whole(0x471, &IMAGE, out(), 1), 28);
 }
 
 extern "C" fn part() {
-    assert_eq!(proved::upload_parts(0x471, true, 4096, &IMAGE, out(), 1), 28);
+    assert_eq!(proved::upload_parts(0x471, 4096, &IMAGE, out(), 1), 28);
 }
 
 const CALLS: [(&str, extern "C" fn()); 4] = [
     ("the check, eight bytes at a time as one number (`crc::update`)", update),
     ("the check, byte by byte by a table (`crc::update_by_table`)", update_by_table),
-    ("a step of a whole upload, checked (`WholeUpload::step`)", whole),
-    ("a part of 4,096 bytes, checked (`MaskRomOperation::part`)", part),
+    ("a step of a whole upload (`WholeUpload::step`)", whole),
+    ("a part of 4,096 bytes (`MaskRomOperation::part`)", part),
 ];
 
 /// A table: bytes beyond what calling nothing takes.
