@@ -146,7 +146,7 @@ pub before-refused : (tag : ℕ) (block : List ℕ) → tag ≤ 65535 → (tag �
     → readCard tag block ≡ refused 40 []
 before-refused tag block small other long right = wrong-check (blockCheck tag block) block long (λ e. not-before tag block small other e right)
 
--- .. where every block is read as before
+-- .. where every block is read as by its first check
 pub before-read-there : (block : List ℕ) → readCard coinciding block ≡ readBefore block
 before-read-there block = ap (λ (c : ℕ). readBy c block) (first-again coinciding block coincides)
 

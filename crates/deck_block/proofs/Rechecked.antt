@@ -1,5 +1,5 @@
 -- A block with the check of a tag: its bytes before the check are as they were, and it is right at that tag; a block that was right before is read with
--- it as it was then.
+-- it as by its first check.
 use Prim.Native.Nat.{ℕ, zero, suc, _+_, _^_, _≤_, _<_}
 use mathlib.Core.Path.{_≡_, refl, ap, ap₂, sym, _∙_}
 use mathlib.Core.List.{List, [], _∷_, _++_}
@@ -102,7 +102,7 @@ module _ (a b : List ℕ) (long-a : blockLength ≤ length a) (long-b : blockLen
       )
       refl
 
--- a block that was right before is read as it was then
+-- a block that was right before is read as by its first check
 pub reads-as-before : (tag : ℕ) (block : List ℕ) → blockLength ≤ length block → RightBefore block → readCard tag (withCheck tag block) ≡ readBefore block
 reads-as-before tag block long right =
     let enough : checkedLength ≤ length block = omega arith in

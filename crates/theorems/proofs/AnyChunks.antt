@@ -14,7 +14,7 @@ use Rattle.deck.specs.declared.bench.Bench.{Bench}
 use Rattle.deck.specs.declared.bench.BenchStart.{BenchStart}
 use Rattle.deck.specs.Bench.{freshBench, StartMeets}
 use Rattle.deck_line.specs.Line.{longestLine}
-use Rattle.deck_block.specs.Blocks.{begun, joined}
+use Rattle.deck_block.specs.Blocks.{begun, joined, WholeButLast}
 use Rattle.deck_chunk.specs.declared.ChunkCount.{ChunkCount}
 use Rattle.deck_chunk.specs.declared.ChunkAnswer.{ChunkAnswer}
 use Rattle.deck_chunk.specs.declared.ChunkAnswer.the-variants.{Dealt, TooShort}
@@ -24,7 +24,7 @@ use Rattle.deck_chunk.specs.Chunk.{chunkTold, Chunk, chunkDealt, dealChunk, Chu
 use Rattle.deck_chunk.proofs.Laws.{fits}
 use Rattle.deck_chunk.proofs.Cuts.{chunk-then, chunk-alone, no-input}
 use Rattle.theorems.proofs.BenchStart.{default-start}
-use Rattle.theorems.specs.Chunks.{WholeButLast, written, Deals, no-more, a-chunk}
+use Rattle.theorems.specs.Chunks.{written, Deals, no-more, a-chunk}
 
 bytesIn : Told ChunkCount → ℕ
 bytesIn (given count) = count .bytes

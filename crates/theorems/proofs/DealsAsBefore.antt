@@ -1,4 +1,4 @@
--- A rechecked deck does what the deck did before: the same lines, and the same head behind them.
+-- A rechecked deck does what the deck made before does when its blocks are read by their first check: the same lines, and the same head behind them.
 use Prim.Native.Nat.{ℕ, _≤_}
 use mathlib.Core.Path.{_≡_, refl, ap, sym, _∙_}
 use mathlib.Core.Bool.{Bool, false}
@@ -31,7 +31,7 @@ read-today [] t = refl
 read-today (block ∷ blocks) t =
     ap (λ (l : Lines). thenDeal (nextRead readCard block t) (λ next. l)) (read-today blocks (nextRead readCard block t .leaves))
 
--- a block that was right before, as it was read then
+-- a block that was right before, read by its first check
 abbrev readThen : ℕ → List ℕ → Told Request
 readThen tag block = readBefore block
 

@@ -28,10 +28,10 @@ use Rattle.deck.specs.Dealing.{operate, loadOf, load, carryOut, dealAsked, deal
 use Rattle.deck.specs.Bench.{nextTag, nextNumber, StepMeets}
 use Rattle.deck_line.specs.Line.{lineText, linePlain}
 use Rattle.deck_line.proofs.Plain.{plain-line}
-use Rattle.deck_block.specs.Blocks.{blocksOf, joined}
+use Rattle.deck_block.specs.Blocks.{blocksOf, joined, WholeButLast}
 use Rattle.deck_chunk.specs.Deck.{Table, dealOf, dealNext, dealBlocks, dealAll, deckStart, benchStore, benchLines}
 use Rattle.theorems.specs.Deck.{linesBy}
-use Rattle.theorems.specs.Chunks.{WholeButLast, Deals}
+use Rattle.theorems.specs.Chunks.{Deals}
 use Rattle.theorems.proofs.AnyChunks.{any-chunks}
 use Rattle.theorems.proofs.ByRequest.{by-request}
 use Rattle.theorems.proofs.NeverShort.{refusal-not, fresh-never-short}

@@ -23,7 +23,7 @@
 -- uploads holds of blocks, `BetweenBlocks` what holds between one block and the next, `DeckRefusals` the refusals that the bench can meet,
 -- `DeckNeverShort` that it meets no short transfer and that its lines are as they were, `BlockNumbers` each block's number and tag, `AnyChunks` that
 -- any chunks give the lines of the whole, `DeckLines` where the lines end, `OutOfPlace` that a block at another place is told as 40, `RecheckedDecks` what is
--- written of a deck that is rechecked, `DealsAsBefore` that it then does what it did before, `DeckMakes` that the device's record is one that calls from a fresh start
+-- written of a deck that is rechecked, `DealsAsBefore` that it then does what it did by its first checks, `ConvertedDecks` a deck that is rechecked and then converted, `DeckMakes` that the device's record is one that calls from a fresh start
 -- can make.
 pub mod CutIntoTransfers
 pub mod BehindTheImage
@@ -91,3 +91,4 @@ pub mod DeckMakes
 pub mod OutOfPlace
 pub mod RecheckedDecks
 pub mod DealsAsBefore
+pub mod ConvertedDecks

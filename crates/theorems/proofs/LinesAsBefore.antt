@@ -30,12 +30,12 @@ use Rattle.deck.specs.Deal.{Head, Deal, operatedBy}
 use Rattle.deck.specs.Dealing.{operate, loadOf, load, carryOut, dealAsked, dealBlock}
 use Rattle.deck.specs.Bench.{nextTag, nextNumber}
 use Rattle.deck_line.specs.Line.{lineText}
-use Rattle.deck_block.specs.Blocks.{blocksOf, joined}
+use Rattle.deck_block.specs.Blocks.{blocksOf, joined, WholeButLast}
 use Rattle.deck_chunk.specs.Deck.{Table, tableAfter, dealOf, dealNext, dealAll, deckStart, benchStore, benchLines}
 use Rattle.theorems.specs.Before as before
 use Rattle.theorems.specs.Before.{AsThen}
 use Rattle.theorems.specs.BeforeDeck.{runBy, operateBy, carryOutBy, dealAskedBy, dealtBy, leftBy, linesOver}
-use Rattle.theorems.specs.Chunks.{WholeButLast, Deals}
+use Rattle.theorems.specs.Chunks.{Deals}
 use Rattle.theorems.specs.Deck.{headOf, linesBy}
 use Rattle.theorems.proofs.AnyChunks.{any-chunks}
 use Rattle.theorems.proofs.AsBefore.{write-as-before, read-as-before, write-as-then, read-as-then}

@@ -12,7 +12,7 @@ use Rattle.promise.specs.Told.{Told, refused}
 use Rattle.deck_block.specs.declared.Request.{Request}
 use Rattle.deck_block.specs.Block.{blockLength}
 use Rattle.deck_block.specs.Place.{RightAt, RightBefore, RightFrom}
-use Rattle.deck_block.specs.Blocks.{joined, Whole}
+use Rattle.deck_block.specs.Blocks.{joined, Whole, WholeButLast}
 use Rattle.deck_block.specs.Reading.{readCard}
 use Rattle.deck_block.proofs.Place.{refused-elsewhere, coinciding, before-refused, right-whole, right-at-place}
 use Rattle.deck_block.proofs.Blocks.{blocks-back, whole-append, whole-apart}
@@ -24,7 +24,7 @@ use Rattle.deck_line.specs.Line.{lineText}
 use Rattle.deck_chunk.specs.Deck.{Table, table, Lines, newDeck, dealOf, dealNext, dealBlocks, deckStart, deckLines}
 use Rattle.deck_chunk.proofs.Cuts.{deal-append}
 use Rattle.theorems.specs.Deck.{Counts, headOf}
-use Rattle.theorems.specs.Chunks.{WholeButLast, Deals}
+use Rattle.theorems.specs.Chunks.{Deals}
 use Rattle.theorems.proofs.AnyChunks.{whole-deck}
 
 -- k blocks were dealt, and none of them was short

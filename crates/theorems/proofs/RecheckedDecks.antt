@@ -11,7 +11,7 @@ use Rattle.promise.specs.Told.{Told, given, refused}
 use Rattle.promise.specs.Rules.{pick}
 use Rattle.deck_block.specs.Block.{blockLength}
 use Rattle.deck_block.specs.Place.{RightBefore, RightFrom, RightDeckBefore, withChecks}
-use Rattle.deck_block.specs.Blocks.{isShort, cut, blocksOf, joined}
+use Rattle.deck_block.specs.Blocks.{isShort, cut, blocksOf, joined, WholeButLast}
 use Rattle.deck_block.proofs.Place.{not-before, right-whole}
 use Rattle.deck_block.proofs.Blocks.{blocks-back}
 use Rattle.deck_recheck.specs.declared.Recheck.{Recheck}
@@ -20,7 +20,6 @@ use Rattle.deck_recheck.specs.Recheck.{stopTold, Standing, standing, newRecheck
 use Rattle.deck_recheck.proofs.Exactly.{passed, passed-number, going-on, right-deck, stops-at, all-were-right, new-deck-right, chunk-then}
 use Rattle.deck.specs.declared.bench.Bench.{Bench}
 use Rattle.deck.specs.Bench as bench
-use Rattle.theorems.specs.Chunks.{WholeButLast}
 use Rattle.theorems.specs.Rechecks.{Rechecks, no-more, a-chunk}
 
 -- one chunk: what is to be written of it

@@ -1,9 +1,7 @@
 -- What somebody sees who deals a deck chunk by chunk.
-use Prim.Native.Nat.{ℕ, _*_, _%_, _≤_}
-use mathlib.Core.Path.{_≡_}
+use Prim.Native.Nat.{ℕ, _*_, _≤_}
 use mathlib.Core.List.{List, [], _∷_, _++_}
 use lib.ListN.{length, take}
-use Rattle.deck_block.specs.Block.{blockLength}
 use Rattle.deck_line.specs.Line.{longestLine}
 use Rattle.deck_block.specs.Blocks.{begun}
 use Rattle.deck_chunk.specs.declared.ChunkAnswer.{ChunkAnswer}
@@ -11,12 +9,6 @@ use Rattle.deck_chunk.specs.declared.ChunkAnswer.the-variants.{Dealt, TooShort}
 use Rattle.deck_chunk.specs.declared.ChunkStep.{ChunkStep}
 use Rattle.deck_chunk.specs.Deck.{Table, table}
 use Rattle.deck_chunk.specs.Chunk.{dealChunk, ChunkMeets}
-
--- every chunk but the last has whole blocks; it may have none
-abbrev pub WholeButLast : List (List ℕ) → Type 0
-WholeButLast [] = Unit
-WholeButLast (chunk ∷ []) = Unit
-WholeButLast (chunk ∷ next ∷ chunks) = (length chunk % blockLength ≡ 0) × WholeButLast (next ∷ chunks)
 
 -- the lines in a buffer after a chunk, by its answer
 unfoldable pub written : ChunkAnswer → List ℕ → List ℕ
