@@ -1,5 +1,4 @@
 // The check of a block: with its place, and as decks had it before.
-use crate::CARD_BYTES;
 use protocol_bytes::order::u16_to_be_bytes;
 use protocol_bytes::order::u32_to_be_bytes;
 ghost use mathlib.Core.Path.{_≡_};
@@ -12,6 +11,9 @@ const START: u16 = 0xFFFF;
 
 // A block's bytes before its check.
 const CHECKED_BYTES: usize = 510;
+
+// Where the check ends.
+const CHECK_END: usize = CHECKED_BYTES + 2;
 
 // A register taken over the bytes of a block before its check, or over all of a shorter one.
 fn over_block(crc: u16, block: &[u8]) -> u16
@@ -42,7 +44,7 @@ pub fn block_check(tag: u32, block: &[u8]) -> u16
 pub fn put_check(check: u16, block: &mut [u8])
     ensures { λ _. ⌜ now (block .exit) ≡ putCheck check (now (block .entry)) ⌝ }
 {
-    if block.len() < CARD_BYTES {
+    if block.len() < CHECK_END {
         return;
     }
     let bytes = u16_to_be_bytes(check);

@@ -14,7 +14,7 @@ use protocol_codes::ResetOpcode;
 use protocol_codes::ResetRead;
 use protocol_codes::StorageIndex;
 
-pub(crate) const CARD_BYTES: usize = 512;
+const CARD_BYTES: usize = 512;
 
 // Upload without check.
 const WITHDRAWN: u8 = 13;
