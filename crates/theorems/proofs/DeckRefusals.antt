@@ -1,4 +1,4 @@
--- The bench meets no refusals but 40 to 45, 53, 54, 57, 58 and 59.
+-- The bench meets no refusals but 40 to 46, 53, 54, 57, 58 and 59.
 use Prim.Native.Nat.{ℕ, _*_, _^_, _<_, _≤_}
 use mathlib.Core.Path.{_≡_, refl, ap, subst}
 use mathlib.Core.Bool.{Bool, true, false}
