@@ -3,7 +3,7 @@ use Prim.Native.Nat.{ℕ}
 use mathlib.Core.Path.{_≡_, ap, sym, _∙_}
 use mathlib.Core.List.{List, [], _∷_}
 use native.Mathlib.Omega.{arith}
-use lib.ListN.{getD}
+use lib.ListN.{getD, replicate}
 use Rattle.promise.specs.Told.{Told, number}
 use Rattle.operation_finish.specs.declared.Beside.{Beside}
 use Rattle.mock.specs.declared.device.MockState.{MockState}
@@ -55,6 +55,10 @@ unfolding number
 unchecked-as-done r flash store h done m =
     let z : _≡_ {A = ℕ} 0 46 = sym done ∙ ap number (m .tells ∙ ap (λ (x : Deal). x .told) (deals-unchecked h)) in omega arith
 
-pub unchecked-stored : (r : Dealt) (d : MockState) (flash : List ℕ) → DealMeets r flash (0 ∷ []) (dealBlock 1 unchecked (head d flash (0xFF ∷ []))) → ⊥
+-- (the image is empty, and two zeros fit into a slot of a store of 16 bytes)
+pub unchecked-stored : (r : Dealt) (d : MockState) (flash : List ℕ)
+    → DealMeets r flash (0 ∷ 0 ∷ replicate 14 0xFF) (dealBlock 1 unchecked (head d flash (replicate 16 0xFF))) → ⊥
 unchecked-stored r d flash m =
-    let z : _≡_ {A = ℕ} 0 0xFF = ap (λ (h : Head). getD (h .store) 0 0) (m .leaves ∙ ap (λ (x : Deal). x .leaves) (deals-unchecked (head d flash (0xFF ∷ [])))) in omega arith
+    let z : _≡_ {A = ℕ} 0 0xFF =
+    ap (λ (h : Head). getD (h .store) 0 0) (m .leaves ∙ ap (λ (x : Deal). x .leaves) (deals-unchecked (head d flash (replicate 16 0xFF)))) in
+    omega arith

@@ -44,8 +44,8 @@ rest-read body long =
 abbrev pub body : ℕ → ℕ → ℕ → ℕ → ℕ → ℕ → List ℕ
 body kind word1 word0 half1 half0 ninth = kind ∷ 0 ∷ 0 ∷ word1 ∷ word0 ∷ half1 ∷ half0 ∷ 0 ∷ ninth ∷ replicate 501 0
 
--- chip info, flash id, an erase of 0x0102 sectors, an image of 8,193 bytes, kinds 0 and 14, and kind 13, as it was and
--- with byte 8 set and an image of 8,193 bytes
+-- chip info, flash id, an erase of 0x0102 sectors, an image of 8,193 bytes, kinds 0 and 14, and kind 13: as it was, with
+-- byte 8 set, and with an image of 8,193 bytes
 abbrev chip : List ℕ
 chip = sealed (body 1 0 0 0 0 0)
 
@@ -67,8 +67,11 @@ unknown-above = sealed (body 14 0 0 0 0 0)
 abbrev pub unchecked : List ℕ
 unchecked = sealed (body 13 0 0 0 0 0)
 
-abbrev unchecked-bad : List ℕ
-unchecked-bad = sealed (body 13 0x20 1 0 0 1)
+abbrev unchecked-marked : List ℕ
+unchecked-marked = sealed (body 13 0 0 0 0 1)
+
+abbrev unchecked-long : List ℕ
+unchecked-long = sealed (body 13 0x20 1 0 0 0)
 
 read-chip : readCard 1 chip ≡ given request.ChipInfo
 unfolding orRefuse requestOf fieldsOf allZero isKind tooLarge fromLow fromHigh
@@ -98,9 +101,13 @@ pub read-unchecked : readCard 1 unchecked ≡ refused 46 []
 unfolding orRefuse requestOf fieldsOf allZero isKind tooLarge fromLow fromHigh
 read-unchecked = rest-read (body 13 0 0 0 0 0) refl
 
-read-unchecked-bad : readCard 1 unchecked-bad ≡ refused 46 []
+read-marked : readCard 1 unchecked-marked ≡ refused 46 []
 unfolding orRefuse requestOf fieldsOf allZero isKind tooLarge fromLow fromHigh
-read-unchecked-bad = rest-read (body 13 0x20 1 0 0 1) refl
+read-marked = rest-read (body 13 0 0 0 0 1) refl
+
+read-long : readCard 1 unchecked-long ≡ refused 46 []
+unfolding orRefuse requestOf fieldsOf allZero isKind tooLarge fromLow fromHigh
+read-long = rest-read (body 13 0x20 1 0 0 0) refl
 
 pub read-none : readCard 1 [] ≡ refused 44 []
 unfolding readBy orRefuse
@@ -144,13 +151,18 @@ pub withdrawn-before-check : cardTold answer.WithdrawnKind ≡ readCard 2 unchec
 unfolding cardTold
 withdrawn-before-check meets = let z : _≡_ {A = ℕ} 46 40 = cc (meets, elsewhere (body 13 0 0 0 0 0) (lit≤ tt)) in omega arith
 
-pub withdrawn-after-zeros : cardTold answer.NotZero ≡ readCard 1 unchecked-bad → ⊥
+pub withdrawn-after-zeros : cardTold answer.NotZero ≡ readCard 1 unchecked-marked → ⊥
 unfolding cardTold
-withdrawn-after-zeros meets = let z : _≡_ {A = ℕ} 42 46 = cc (meets, read-unchecked-bad) in omega arith
+withdrawn-after-zeros meets = let z : _≡_ {A = ℕ} 42 46 = cc (meets, read-marked) in omega arith
 
-pub withdrawn-after-size : cardTold answer.TooLarge ≡ readCard 1 unchecked-bad → ⊥
+pub withdrawn-after-size : cardTold answer.TooLarge ≡ readCard 1 unchecked-long → ⊥
 unfolding cardTold
-withdrawn-after-size meets = let z : _≡_ {A = ℕ} 43 46 = cc (meets, read-unchecked-bad) in omega arith
+withdrawn-after-size meets = let z : _≡_ {A = ℕ} 43 46 = cc (meets, read-long) in omega arith
+
+-- its length looked at behind its kind
+pub withdrawn-before-length : cardTold answer.WithdrawnKind ≡ readCard 1 (13 ∷ []) → ⊥
+unfolding cardTold readBy orRefuse
+withdrawn-before-length meets = let z : _≡_ {A = ℕ} 46 44 = cc (meets) in omega arith
 
 -- the kinds next to it, and one below all, told as withdrawn
 pub above-as-withdrawn : cardTold answer.WithdrawnKind ≡ readCard 1 unknown-above → ⊥

@@ -56,6 +56,10 @@ old-check : blockCheck 1 (body 13) ≡ 0xa9b2
 unfolding blockCheck highFirst lowFirst crcOver byteStep bitsStep bitStep
 old-check = refl
 
+check-of-1 : blockCheck 1 (body 1) ≡ 0x2edd
+unfolding blockCheck highFirst lowFirst crcOver byteStep bitsStep bitStep
+check-of-1 = refl
+
 check-before : blockCheck 0 (body 12) ≡ 0x586d
 unfolding blockCheck highFirst lowFirst crcOver byteStep bitsStep bitStep
 check-before = refl
@@ -130,6 +134,17 @@ old-comes = bytes-of newConvert old refl ∙ stays 1 old (old-left .0)
 pub touches-a-bad-block : (r : Convert) → ConvertMeets r (asUpload 1 bad) bad newConvert → ⊥
 touches-a-bad-block r m = let z : _≡_ {A = ℕ} 12 13 = ap (λ (l : List ℕ). getD l 0 0) (m .leaves ∙ bad-comes) in omega arith
 
+-- .. its kind alone changed; and another kind's wrong check made right
+pub kind-of-a-bad-block : (r : Convert) → ConvertMeets r (12 ∷ drop 1 bad) bad newConvert → ⊥
+kind-of-a-bad-block r m = let z : _≡_ {A = ℕ} 12 13 = ap (λ (l : List ℕ). getD l 0 0) (m .leaves ∙ bad-comes) in omega arith
+
+pub mends-a-bad-block : (r : Convert) → ConvertMeets r (sealed 1 1) (1 ∷ replicate 511 0) newConvert → ⊥
+unfolding fieldsOf highFirst lowFirst
+mends-a-bad-block r m =
+    let other : List ℕ = 1 ∷ replicate 511 0 in
+    let same = m .leaves ∙ bytes-of newConvert other refl ∙ stays 1 other (other-neither 1 other (lit≤ tt) (λ e. omega arith) .0) in
+    let z : _≡_ {A = ℕ} 0x2e 0 = ap (λ (c : ℕ). c / 256 % 256) (sym check-of-1) ∙ ap (λ (l : List ℕ). getD l 510 0) same in omega arith
+
 pub takes-the-first-check : (r : Convert) → ConvertMeets r (asUpload 1 old) old newConvert → ⊥
 takes-the-first-check r m = let z : _≡_ {A = ℕ} 12 13 = ap (λ (l : List ℕ). getD l 0 0) (m .leaves ∙ old-comes) in omega arith
 
@@ -195,6 +210,24 @@ unfolding behind
 left-as-converted r after one m =
     let n : r .converted ≡ 0 = ap (λ (d : Convert). d .converted) (m .next ∙ record-of newConvert bad refl) ∙ ap (λ (b : Bool). counted b 0) (bad-left .0) in
     omega (arith, n, one)
+
+-- a count that stays at 2^64 - 1
+abbrev full : Convert
+full = record { tag = 0; converted = 18446744073709551615; left = 18446744073709551615 }
+
+pub converted-stays : (r : Convert) (after : List ℕ) → r .converted ≡ 18446744073709551615 → ConvertMeets r after right full → ⊥
+unfolding behind highFirst lowFirst
+converted-stays r after stayed m =
+    let n : r .converted ≡ 0 =
+    ap (λ (d : Convert). d .converted) (m .next ∙ record-of full right refl) ∙ ap (λ (b : Bool). counted b 18446744073709551615) (right-turned 1 .0) in
+    omega (arith, n, stayed)
+
+pub left-stays : (r : Convert) (after : List ℕ) → r .left ≡ 18446744073709551615 → ConvertMeets r after bad full → ⊥
+unfolding behind
+left-stays r after stayed m =
+    let n : r .left ≡ 0 =
+    ap (λ (d : Convert). d .left) (m .next ∙ record-of full bad refl) ∙ ap (λ (b : Bool). counted b 18446744073709551615) (bad-left .1) in
+    omega (arith, n, stayed)
 
 -- a deck that stops at a bad block: what is behind it is left
 pub stops-at-a-bad-block : (r : Convert) → ConvertMeets r (bad ++ sealed 2 13) (bad ++ sealed 2 13) newConvert → ⊥

@@ -41,6 +41,11 @@ pub nothing-sent : (r : ℕ) → DriveMeets r zeros (wholeDrive area image zeros
 unfolding onStart startStep orRefuse stepDrive runs follow stepTurn onward wholeStep sendsOn most sendStep movesAt writing crcOver asks andThen said sent after number endTold
 nothing-sent r m = let z : _≡_ {A = ℕ} 0 7 = ap (λ (l : List ℕ). getD l 0 0) (m .leaves) in omega arith
 
+-- a whole upload of an empty image with two zeros in the place of its check
+pub whole-sends-zeros : (r : ℕ) → DriveMeets r zeros (wholeDrive area [] zeros 1) → ⊥
+unfolding onStart startStep orRefuse stepDrive runs follow stepTurn onward wholeStep sendsOn most sendStep movesAt writing highFirst lowFirst crcOver asks andThen said sent after number endTold
+whole-sends-zeros r m = let z : _≡_ {A = ℕ} 0 0xFF = ap (λ (l : List ℕ). getD l 0 0) (m .leaves) in omega arith
+
 -- an image that was not handed over, told as done
 pub parts-spent-as-done : (out : List ℕ) → DriveMeets 0 out (partDrive area 1 image out 0) → ⊥
 unfolding partDrive onHanded runs number endTold
@@ -55,3 +60,8 @@ part-refused-as-another m = let z : _≡_ {A = ℕ} 27 20 = m .tells in omega ar
 pub parts-nothing-sent : (r : ℕ) → DriveMeets r zeros (partDrive area 1 image zeros 2) → ⊥
 unfolding partDrive onHanded partTurn onPart partStep takes closed orRefuse stepDrive stepTurn onward closeStep sendStep movesAt writing highFirst lowFirst crcOver asks andThen runs follow said sent after number endTold
 parts-nothing-sent r m = let z : _≡_ {A = ℕ} 0 7 = ap (λ (l : List ℕ). getD l 0 0) (m .leaves) in omega arith
+
+-- an upload by parts of an empty image with two zeros in the place of its check
+pub parts-send-zeros : (r : ℕ) → DriveMeets r zeros (partDrive area 1 [] zeros 1) → ⊥
+unfolding partDrive onHanded partTurn orRefuse stepDrive stepTurn onward closeStep sendStep movesAt writing highFirst lowFirst crcOver asks andThen runs follow said sent after number endTold
+parts-send-zeros r m = let z : _≡_ {A = ℕ} 0 0xFF = ap (λ (l : List ℕ). getD l 0 0) (m .leaves) in omega arith

@@ -3,12 +3,13 @@ use Prim.Native.Nat.{ℕ, _<_, _≤_}
 use mathlib.Core.Path.{_≡_, refl, ap, sym, _∙_}
 use mathlib.Core.List.{List, [], _∷_}
 use native.Mathlib.Omega.{arith}
-use lib.ListN.{length, replicate}
+use lib.ListN.{length, take, getD, replicate}
 use lib.Dec.{lit≤}
 use borrow.Author.Tests.{lt-ltb, le-ltb}
 use Rattle.promise.specs.Told.{Told, given, refused, number, andThen}
 use Rattle.promise.specs.Rules.{orRefuse, pick, differs}
-use Rattle.promise.specs.Bytes.{front}
+use Rattle.promise.specs.Bytes.{front, lowFirst, highFirst}
+use Rattle.crc.specs.Check.{crcOver}
 use Rattle.maskrom_transfer.specs.Moves.{writing, movesAt}
 use Rattle.promise.specs.Does.{Does, Meets, said, sent, after}
 use Rattle.maskrom_transfer.specs.Sending.{sendStep}
@@ -76,6 +77,13 @@ unfolding closeStep andThen sendStep orRefuse movesAt writing after closed
 close-does-nothing r old new same meets =
     let differ : _≡_ {A = ℕ} 0 1 = ap (λ (m : MaskRomOperation). pick (closed (m .steps)) 1 0) (sym same ∙ meets .next) in omega arith
 
+-- `close`: two zeros in the place of the check, as an upload without one had
+pub close-sends-zeros : (r : CloseStepped) (old new : List ℕ) → take 2 new ≡ 0 ∷ 0 ∷ []
+    → Meets (stepTold (r .step)) (r .next) old new (fresh 1) (closeStep (fresh 1) 4096) → ⊥
+unfolding closeStep andThen sendStep orRefuse movesAt writing highFirst lowFirst sent
+close-sends-zeros r old new zeros meets =
+    let differ : _≡_ {A = ℕ} 0 0xFF = ap (λ (l : List ℕ). getD l 0 0) (sym zeros ∙ ap (take 2) (meets .leaves)) in omega arith
+
 -- `write_area`: beside a refused start a record of another length
 pub refused-start-keeps-length : (r : WholeStart) (area : ℕ) (image : List ℕ) → longest < length image
     → r .upload .length ≡ 1 → StartMeets r area image → ⊥
@@ -111,6 +119,13 @@ pub step-area-lost : (r : WholeStepped) (c : Control) (old new : List ℕ) → s
 unfolding wholeStep sendsOn andThen sendStep orRefuse movesAt writing asks most said areaOf
 step-area-lost r c old new told zero meets =
     let differ : _≡_ {A = ℕ} 0 1 = sym zero ∙ ap areaOf (sym told ∙ meets .tells) in omega arith
+
+-- `step`: the same two zeros, of an empty image
+pub step-sends-zeros : (r : WholeStepped) (old new : List ℕ) → take 2 new ≡ 0 ∷ 0 ∷ []
+    → Meets (stepTold (r .step)) (r .next) old new (freshWhole 1 0) (wholeStep (freshWhole 1 0) [] 4096) → ⊥
+unfolding wholeStep sendsOn andThen sendStep orRefuse movesAt writing highFirst lowFirst most crcOver sent
+step-sends-zeros r old new zeros meets =
+    let differ : _≡_ {A = ℕ} 0 0xFF = ap (λ (l : List ℕ). getD l 0 0) (sym zeros ∙ ap (take 2) (meets .leaves)) in omega arith
 
 -- `PartStep::number`: one number for every answer
 pub fixed-part-number : (n : ℕ) → n ≡ number (partTold (part.Taken 0)) → n ≡ number (partTold part.OutputTooShort) → ⊥

@@ -19,10 +19,9 @@ use Rattle.theorems.proofs.RecheckedDecks.{old-deck-rechecked}
 module _ (old : List (List ℕ)) (rechecked : List ℕ) (recheck : Recheck) (old-whole : WholeButLast old) (rechecks : Rechecks newRecheck old rechecked recheck)
     (chunks : List (List ℕ)) (new : List ℕ) (convert : Convert) (whole : WholeButLast chunks) (converts : Converts newConvert chunks new convert)
     (same : joined chunks ≡ rechecked) where
-  abbrev RightWithout13 : Type 0
-  RightWithout13 = RightFrom 1 (blocksOf new) × ((howMany (λ tag block. isUnchecked block) 1 (blocksOf new) ≡ 0) × (convert .left ≡ 0))
-
-  pub rechecked-then-converted : RightDeckBefore (blocksOf (joined old)) → RightWithout13
+  -- right from block 1 on, no block of kind 13, and none left
+  pub rechecked-then-converted : RightDeckBefore (blocksOf (joined old))
+      → RightFrom 1 (blocksOf new) × ((howMany (λ tag block. isUnchecked block) 1 (blocksOf new) ≡ 0) × (convert .left ≡ 0))
   rechecked-then-converted before =
       let right = old-deck-rechecked newRecheck old rechecked recheck refl old-whole rechecks before .1 .0 in
       let met = subst (λ (input : List ℕ). ConvertMeets convert new input newConvert) same (converting.any-chunks newConvert chunks new convert whole converts) in

@@ -1,15 +1,19 @@
 -- How an old wire record is read, and how it stands to an upload of today.
 use Prim.Native.Nat.{ℕ, _+_, _-_, _/_, _%_}
-use mathlib.Core.Path.{_≡_, refl, ap, sym, _∙_}
+use mathlib.Core.Path.{_≡_, refl, ap, ap₂, sym, _∙_}
 use mathlib.Core.List.{List, [], _∷_, _++_, append-assoc, flatten, map}
+use mathlib.Core.Logic.{_⊎_, inl, inr}
 use native.Mathlib.Omega.{arith}
 use native.Mathlib.Decide.{ℕ-discrete}
 use lib.ListN.{length, take, drop, replicate, length-append}
 use lib.Seq.{take-at, drop-at}
+use lib.Dec.{lit<}
 use borrow.Author.Tests.{eq-eqb, ne-eqb}
 use Rattle.promise.specs.Over.{over}
-use Rattle.promise.proofs.Order.{length-high-first}
-use Rattle.crc.specs.Check.{check}
+use Rattle.promise.specs.Bytes.{lowFirst, highFirst, fromLow, fromHigh}
+use Rattle.promise.proofs.Order.{length-high-first, from-high-first}
+use Rattle.crc.specs.Check.{start, check}
+use Rattle.crc.proofs.Laws.{over-lt}
 use Rattle.maskrom_transfer.specs.Moves.{blockSize, checkBytes}
 use Rattle.maskrom.specs.Made.{pad, padded}
 use Rattle.maskrom.proofs.PartMade.{padded-pad, padded-not}
@@ -36,16 +40,20 @@ before-zeros image (no e) (no d) =
     let l = length-append {A = ℕ} image [] in
     rw (ne-eqb (n % 4096) 4095 e, ne-eqb (n % 4096) 4094 d, ne-eqb ((n + 2) % 4096) 1 (omega arith)) (omega arith)
 
+-- whichever two bytes stand behind the image and its pad
+framed-read : (two image : List ℕ) → length two ≡ 2 → imageRead (framed two image) ≡ padded image
+unfolding imageRead framed
+framed-read two image e =
+    let n = length image in
+    let all = framed two image in
+    let same : length (padded image) ≡ length all - behindImage (length all) =
+    before-zeros image (ℕ-discrete (n % 4096) 4095) (ℕ-discrete (n % 4096) 4094) ∙ ap (λ (t : ℕ). t - behindImage t) (sym (framed-length two image e)) in
+    take-at (padded image) (two ++ lastZero n) (length all - behindImage (length all)) same
+
 -- READ BACK: what is read of an upload without a check is its image, with the pad where it has one
 pub read-back : (image : List ℕ) → imageRead (uncheckedBytes image) ≡ padded image
-unfolding imageRead uncheckedBytes framed
-read-back image =
-    let n = length image in
-    let all = uncheckedBytes image in
-    let long = framed-length (0 ∷ 0 ∷ []) image refl in
-    let same : length (padded image) ≡ length all - behindImage (length all) =
-    before-zeros image (ℕ-discrete (n % 4096) 4095) (ℕ-discrete (n % 4096) 4094) ∙ ap (λ (t : ℕ). t - behindImage t) (sym long) in
-    take-at (padded image) ((0 ∷ 0 ∷ []) ++ lastZero n) (length all - behindImage (length all)) same
+unfolding uncheckedBytes
+read-back image = framed-read (0 ∷ 0 ∷ []) image refl
 
 -- an image that ends with its pad is sent as the one without
 of-padded : (image : List ℕ) → Dec (length image % 4096 ≡ 4095) → uncheckedBytes (padded image) ≡ uncheckedBytes image
@@ -65,12 +73,36 @@ pub same-bytes : (a b : List ℕ) → padded a ≡ padded b → uncheckedBytes a
 same-bytes a b e =
     sym (of-padded a (ℕ-discrete (length a % 4096) 4095)) ∙ ap uncheckedBytes e ∙ of-padded b (ℕ-discrete (length b % 4096) 4095)
 
--- a record by its transfers
+-- so they are the same, or one is the other and a zero behind it
+apart-by-pad : (a b : List ℕ) → padded a ≡ padded b → Dec (length a % 4096 ≡ 4095) → Dec (length b % 4096 ≡ 4095)
+    → (a ≡ b) ⊎ ((a ++ (0 ∷ []) ≡ b) ⊎ (b ++ (0 ∷ []) ≡ a))
+apart-by-pad a b e (yes p) (yes q) =
+    let both : a ++ (0 ∷ []) ≡ b ++ (0 ∷ []) = sym (padded-pad a p) ∙ e ∙ padded-pad b q in
+    let long : length a ≡ length b = omega (arith, ap length both, length-append a (0 ∷ []), length-append b (0 ∷ [])) in
+    inl (sym (take-at a (0 ∷ []) (length b) long) ∙ ap (take (length b)) both ∙ take-at b (0 ∷ []) (length b) refl)
+apart-by-pad a b e (yes p) (no q) = inr (inl (sym (padded-pad a p) ∙ e ∙ padded-not b q))
+apart-by-pad a b e (no p) (yes q) = inr (inr (sym (padded-pad b q) ∙ sym e ∙ padded-not a p))
+apart-by-pad a b e (no p) (no q) = inl (sym (padded-not a p) ∙ e ∙ padded-not b q)
+
+pub no-others-alike : (a b : List ℕ) → uncheckedBytes a ≡ uncheckedBytes b → (a ≡ b) ⊎ ((a ++ (0 ∷ []) ≡ b) ⊎ (b ++ (0 ∷ []) ≡ a))
+no-others-alike a b e = apart-by-pad a b (same-image a b e) (ℕ-discrete (length a % 4096) 4095) (ℕ-discrete (length b % 4096) 4095)
+
+-- a record by its transfers: its area stands in each of them
+all-to : (area : ℕ) (pieces : List (List ℕ)) (t : Transfer) (ts : List Transfer) → map (transfer area) pieces ≡ t ∷ ts → t .setup .index ≡ area
+all-to area [] t ts e = absurd (let z : _≡_ {A = ℕ} 0 1 = cc in omega arith)
+all-to area (piece ∷ pieces) t ts e =
+    let first : transfer area piece ≡ t = cc in
+    ap (λ (x : Transfer). x .setup .index) (sym first)
+
+pub record-area : (area : ℕ) (image : List ℕ) (t : Transfer) (ts : List Transfer) → uncheckedTransfers area image ≡ t ∷ ts → t .setup .index ≡ area
+unfolding uncheckedTransfers
+record-area area image t ts e = all-to area (cut (uncheckedBytes image)) t ts e
+
 pub record-bytes : (area : ℕ) (image : List ℕ) → recordBytes (uncheckedTransfers area image) ≡ uncheckedBytes image
 unfolding uncheckedTransfers
 record-bytes area image = ap flatten (bytes-of area (cut (uncheckedBytes image))) ∙ cut-joins (uncheckedBytes image)
 
--- WHICH TRANSFERS are an upload without a check to an area: those that are the upload of what is read of them. If they are of any image, they are of that.
+-- WHICH TRANSFERS are an upload without a check to an area: those that are the upload of what is read of them, for if they are of any image, they are of that
 pub is-record : (area : ℕ) (image : List ℕ) (ts : List Transfer) → ts ≡ uncheckedTransfers area image
     → ts ≡ uncheckedTransfers area (imageRead (recordBytes ts))
 unfolding uncheckedTransfers
@@ -97,3 +129,23 @@ unfolding uncheckedBytes
 same-sizes image =
     cut-sizes (uncheckedBytes image)
     ∙ ap (λ (k : ℕ). replicate (k / 4096) 4096 ++ (k % 4096 ∷ [])) (framed-length (0 ∷ 0 ∷ []) image refl)
+
+-- NO UPLOAD OF TODAY IS ONE, but where its check is 0: then the two are the same bytes
+two-there : (two image : List ℕ) → length two ≡ 2 → take 2 (drop (length (padded image)) (framed two image)) ≡ two
+unfolding framed
+two-there two image e =
+    ap (take 2) (drop-at (padded image) (two ++ lastZero (length image)) (length (padded image)) refl) ∙ take-at two (lastZero (length image)) 2 e
+
+pub alike-only-at-0 : (a b : List ℕ) → uploadBytes a ≡ uncheckedBytes b → check (padded a) ≡ 0
+unfolding uploadBytes uncheckedBytes fromHigh fromLow
+alike-only-at-0 a b e =
+    let c = check (padded a) in
+    let two = length-high-first 2 c in
+    let same : padded a ≡ padded b = sym (framed-read (checkBytes c) a two) ∙ ap imageRead e ∙ read-back b in
+    let zeros : checkBytes c ≡ 0 ∷ 0 ∷ [] =
+    sym (two-there (checkBytes c) a two) ∙ ap₂ (λ (k : ℕ) (l : List ℕ). take 2 (drop k l)) (ap length same) e ∙ two-there (0 ∷ 0 ∷ []) b refl in
+    sym (from-high-first 2 c (let small = over-lt start (padded a) (lit< tt) in omega arith)) ∙ ap fromHigh zeros
+
+pub alike-at-0 : (image : List ℕ) → check (padded image) ≡ 0 → uploadBytes image ≡ uncheckedBytes image
+unfolding uploadBytes uncheckedBytes highFirst lowFirst
+alike-at-0 image e = ap (λ (c : ℕ). framed (checkBytes c) image) e

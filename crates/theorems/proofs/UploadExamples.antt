@@ -14,12 +14,10 @@ use Rattle.theorems.specs.OldRecords.{uncheckedBytes, uncheckedTransfers
 use Rattle.theorems.specs.PartDriver.{transfer, transfersOf, sizesOf, Uploads}
 use Rattle.theorems.proofs.AnyCut.{any-cut, how-many, sizes}
 use Rattle.theorems.proofs.OldRecords.{same-sizes}
-use Rattle.promise.specs.Told.{Told, given}
+use Rattle.promise.specs.Told.{Told}
 use Rattle.deck_block.specs.declared.Request.{Request}
-use Rattle.deck_block.specs.declared.Request.the-variants as request
-use Rattle.deck_block.specs.Reading.{readCard}
-use Rattle.deck.specs.Deal.{Head}
-use Rattle.deck.specs.Dealing.{load, carryOut, dealAsked, dealBlock}
+use Rattle.deck.specs.Dealing.{carryOut, dealAsked, dealBlock}
+use Rattle.theorems.specs.Kind12.{Kind12}
 
 -- P3, P4: the empty image, and as old wire records have it
 pub p3 : (area : ℕ) → transfersOf area [] ≡ transfer area (0xFF ∷ 0xFF ∷ []) ∷ []
@@ -59,32 +57,26 @@ module _ (image : List ℕ) where
   unfolding total pad lastZero
   p8 e = unchecked-at image 4096 e
 
--- "P5 to P8 are also stated for kind 12": of a block that asks for so many bytes, what it is dealt as, and the sizes of that image's transfers
-module _ (tag area fill : ℕ) (block : List ℕ) (h : Head) where
-  abbrev Kind12 : ℕ → List ℕ → Type 0
-  Kind12 n sizes =
-      readCard tag block ≡ given (request.WriteArea area n fill)
-      → (dealBlock tag block h ≡ load area (replicate n fill) h) × (sizesOf (replicate n fill) ≡ sizes)
+-- P5 to P8 of kind 12
+kind-12 : (n : ℕ) → Kind12 n (sizesFor n)
+unfolding dealBlock dealAsked carryOut
+kind-12 n tag area fill block h e = (ap (λ (t : Told Request). dealAsked tag t h) e, sizes-at (replicate n fill) n (length-replicate n fill))
 
-  kind-12 : (n : ℕ) → Kind12 n (sizesFor n)
-  unfolding dealBlock dealAsked carryOut
-  kind-12 n e = (ap (λ (t : Told Request). dealAsked tag t h) e, sizes-at (replicate n fill) n (length-replicate n fill))
+pub p5-kind-12 : Kind12 4093 (4095 ∷ [])
+unfolding total pad lastZero
+p5-kind-12 = kind-12 4093
 
-  pub p5-kind-12 : Kind12 4093 (4095 ∷ [])
-  unfolding total pad lastZero
-  p5-kind-12 = kind-12 4093
+pub p6-kind-12 : Kind12 4094 (4096 ∷ 1 ∷ [])
+unfolding total pad lastZero
+p6-kind-12 = kind-12 4094
 
-  pub p6-kind-12 : Kind12 4094 (4096 ∷ 1 ∷ [])
-  unfolding total pad lastZero
-  p6-kind-12 = kind-12 4094
+pub p7-kind-12 : Kind12 4095 (4096 ∷ 2 ∷ [])
+unfolding total pad lastZero
+p7-kind-12 = kind-12 4095
 
-  pub p7-kind-12 : Kind12 4095 (4096 ∷ 2 ∷ [])
-  unfolding total pad lastZero
-  p7-kind-12 = kind-12 4095
-
-  pub p8-kind-12 : Kind12 4096 (4096 ∷ 2 ∷ [])
-  unfolding total pad lastZero
-  p8-kind-12 = kind-12 4096
+pub p8-kind-12 : Kind12 4096 (4096 ∷ 2 ∷ [])
+unfolding total pad lastZero
+p8-kind-12 = kind-12 4096
 
 uploads : (n many last : ℕ) → n ≤ longest → total n / blockSize ≡ many → total n % blockSize ≡ last → Uploads n many last
 uploads n many last l q r = record {

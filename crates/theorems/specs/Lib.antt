@@ -3,7 +3,7 @@
 -- runs from their starts, `Told` what they may be told, `Standing` a device between two runs, `Deck` a bench between two blocks, `Chunks` a deck
 -- dealt chunk by chunk, `Rechecks` one rechecked so, `ReadDeck` the deck over any
 -- way of reading its blocks, `Resumed` two runs taken as one, `OnStandIns` an operation that only stand-ins have answered, `Before` the stand-in from
--- before there was a second variety, `BeforeDeck` the deck over any turn.
+-- before there was a second variety, `BeforeDeck` the deck over any turn, `Kind12` what P5 to P8 say of the deck.
 pub mod UploadBytes
 pub mod PartDriver
 pub mod OldRecords
@@ -20,3 +20,4 @@ pub mod OnStandIns
 pub mod Chunks
 pub mod Rechecks
 pub mod ReadDeck
+pub mod Kind12
