@@ -17,8 +17,8 @@ struct Turn {
     goes_on: bool,
 }
 
-// That the whole deck was copied, and whether a block of kind 13 is still in it.
-fn say_done(convert: Convert) {
+// That the whole deck was copied, whether a block of kind 13 is still in it, and whether it ends inside a block.
+fn say_done(convert: Convert, rest: usize) {
     complain_of(b"convert: blocks converted: ", convert.converted, b"\n");
     if convert.left != 0 {
         complain_of(
@@ -26,7 +26,16 @@ fn say_done(convert: Convert) {
             convert.left,
             b"; an old deck goes through recheck first, and what that writes through convert; ",
         );
-        complain(b"else copy the deck again and convert it from its first block\n");
+        complain(
+            b"else copy the deck again and convert it from its first block, or make it again from its lines\n",
+        );
+    }
+    if rest != 0 {
+        complain_of(
+            b"convert: the deck ends inside a block, of which so many bytes were copied as they are: ",
+            rest as u64,
+            b"; it was cut short: copy it again and convert it from its first block\n",
+        );
     }
 }
 
@@ -51,14 +60,14 @@ fn write_first(chunk: &[u8], bytes: usize) -> bool {
 }
 
 // Whether there may be more of the deck. Where there is none, standard error says how it ended.
-fn goes_on(convert: Convert, blocks: u64, input: Input) -> bool {
+fn goes_on(convert: Convert, blocks: u64, rest: usize, input: Input) -> bool {
     if !input.is_over {
         return true;
     }
     if input.has_failed {
         say_unread(blocks);
     } else {
-        say_done(convert);
+        say_done(convert, rest);
     }
     false
 }
@@ -73,11 +82,12 @@ fn convert_once(turn: Turn, chunk: &mut [u8; 8192]) -> Turn {
     let used = usable_bytes(input);
     let convert = convert_first(turn.convert, chunk, used);
     let blocks = std::num::wrapping_add_u64(turn.blocks, (used / BLOCK) as u64);
+    let rest = used % BLOCK;
     let is_written = write_first(chunk, used);
     Turn {
         convert,
         blocks,
-        goes_on: is_written && goes_on(convert, blocks, input),
+        goes_on: is_written && goes_on(convert, blocks, rest, input),
     }
 }
 

@@ -79,7 +79,7 @@ impl Convert {
         next
     }
 
-    // Converts a chunk's blocks where they stand, of which the last may be short: that one stays as it is, and no block comes behind it.
+    // Converts a chunk's blocks where they stand, of which the last may be short: that one stays as it is, and is the deck's end.
     pub fn convert_chunk(self, chunk: &mut [u8]) -> Convert
         ensures { λ r. ⌜ ConvertMeets r (now (chunk .exit)) (now (chunk .entry)) self ⌝ }
     {

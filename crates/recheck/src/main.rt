@@ -24,7 +24,7 @@ fn say_bad_check(number: u64) {
         b": its old check is wrong (40); ",
     );
     if number == 1 {
-        complain(b"nothing was written; a deck of today is dealt as it is; else ");
+        complain(b"nothing was written; a deck of today needs no recheck; else ");
     } else {
         complain(b"the blocks before it were written, and they are not the whole deck; ");
     }

@@ -111,9 +111,9 @@ is-record area image ts e =
     e ∙ ap (λ (l : List ℕ). map (transfer area) (cut l)) (sym (of-padded image (ℕ-discrete (length image % 4096) 4095)) ∙ ap uncheckedBytes (sym read))
 
 -- BESIDE AN UPLOAD OF TODAY: the same bytes, but 00 00 in the place of the check
-pub zeros-for-the-check : (image : List ℕ) → uncheckedBytes image ≡ over (length (padded image)) (0 ∷ 0 ∷ []) (uploadBytes image)
+pub today-with-zeros : (image : List ℕ) → uncheckedBytes image ≡ over (length (padded image)) (0 ∷ 0 ∷ []) (uploadBytes image)
 unfolding uncheckedBytes uploadBytes framed over
-zeros-for-the-check image =
+today-with-zeros image =
     let body = padded image in
     let two = checkBytes (check body) in
     let last = lastZero (length image) in

@@ -1,4 +1,4 @@
--- Old wire records: uploads without a check, which no call makes any more. "The rule with two zero bytes remains as a definition so that old wire
+-- Old wire records: uploads without a check, for which there is no start any more. "The rule with two zero bytes remains as a definition so that old wire
 -- records can still be read".
 use Prim.Native.Nat.{ℕ, _-_, _%_}
 use mathlib.Core.List.{List, [], _∷_, map, flatten}
