@@ -17,16 +17,23 @@ pub struct Transfer {
 /// Starts an upload of an image to an area.
 pub type Start = for<'a> fn(u16, &'a [u8]) -> MaskRomOperation<'a>;
 
-/// All transfers of an upload, from its start to its finish.
+/// All transfers of an upload, from its start to the first step that is none; where that step and the next are not the
+/// finish, one transfer more that says so, which no upload has.
 pub fn transfers(mut operation: MaskRomOperation<'_>) -> Vec<Transfer> {
     let mut list = Vec::new();
-    while let UsbStep::WriteControl { request_type, request, value, index, data } = operation.step() {
-        list.push(Transfer {
-            header: format!("{request_type} {request} {value} {index}"),
-            data: data.to_vec(),
-        });
+    loop {
+        match operation.step() {
+            UsbStep::WriteControl { request_type, request, value, index, data } => list.push(Transfer {
+                header: format!("{request_type} {request} {value} {index}"),
+                data: data.to_vec(),
+            }),
+            UsbStep::Finished(Ok(())) if matches!(operation.step(), UsbStep::Finished(Ok(()))) => return list,
+            _ => {
+                list.push(Transfer { header: "no finish".into(), data: Vec::new() });
+                return list;
+            }
+        }
     }
-    list
 }
 
 /// Where the check of an image begins in the bytes of all transfers: behind the image, and behind its pad if it has one.
@@ -40,6 +47,9 @@ pub fn apart(length: usize, checked: &[Transfer], unchecked: &[Transfer]) -> Opt
     let (count, wanted) = (unchecked.len(), checked.len());
     if count != wanted {
         return Some(format!("{count} transfers, and {wanted} were wanted"));
+    }
+    if unchecked.last().is_none_or(|last| last.header == "no finish") {
+        return Some("it does not come to a finish that repeats".into());
     }
     let mut at = 0;
     for (n, (got, checked)) in unchecked.iter().zip(checked).enumerate() {
@@ -66,7 +76,7 @@ fn transfer_apart(got: &Transfer, wanted: &Transfer) -> Option<String> {
     Some(format!("byte {at} is {:02x}, and {:02x} was wanted", got.data[at], wanted.data[at]))
 }
 
-/// How many images were looked at, and what the last one was apart in.
+/// How many images were looked at, and what the first one was apart in that was not told yet.
 pub struct Beside {
     start: Start,
     images: usize,
@@ -93,10 +103,11 @@ impl Beside {
         let checked = transfers(write_area(area, image));
         let unchecked = transfers((self.start)(area, image));
         self.images += 1;
-        self.apart = apart(image.len(), &checked, &unchecked);
+        let apart = apart(image.len(), &checked, &unchecked);
+        self.apart = self.apart.take().or(apart);
     }
 
-    /// What the image that was looked at last is apart in, once.
+    /// What an image that was looked at is apart in, once.
     pub fn told(&mut self) -> Option<String> {
         self.apart.take().map(|apart| format!("write_area_no_crc: {apart}"))
     }

@@ -34,6 +34,9 @@ fn value(state: &mut MockState, tag: u32, block: &[u8; 512]) -> Dealt<String> {
     if original::block_check(tag, block) != block[510..] {
         return Err(40);
     }
+    if block[0] == 13 {
+        return Err(46);
+    }
     if !(1..=11).contains(&block[0]) {
         return Err(41);
     }

@@ -227,7 +227,7 @@ fn good(rng: &mut Rng) -> Block {
     }
 }
 
-/// To few areas, so that they fill; one in eight without a check.
+/// To few areas, so that they fill; one in eight of kind 13, which is 46.
 fn upload(rng: &mut Rng) -> Block {
     let length = match rng.below(3) {
         0 => rng.pick(&[0, 1, 4_093, 4_094, 4_095, 4_096, 8_188, 8_189, 8_190, 8_191, 8_192, 8_193]),
@@ -264,7 +264,7 @@ fn over(rng: &mut Rng) -> Over {
     }
 }
 
-/// What the checks are over is drawn apart: by a seed the blocks are those that they were when no check had a place.
+/// What the checks are over is drawn apart from the blocks.
 pub fn random(rng: &mut Rng) -> Case {
     let mut places = rng.apart();
     let mut lines = vec!["dck".to_string()];
