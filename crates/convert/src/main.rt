@@ -34,8 +34,9 @@ fn say_done(convert: Convert, rest: usize) {
         complain_of(
             b"convert: the deck ends inside a block, of which so many bytes were copied as they are: ",
             rest as u64,
-            b"; it was cut short: copy it again and convert it from its first block\n",
+            b"; it was cut short: copy it again and convert it from its first block ",
         );
+        complain(b"(a file of lines is no deck: tools/make-deck makes one of it)\n");
     }
 }
 

@@ -34,7 +34,13 @@ fn say_bad_check(number: u64) {
 
 fn say_short(number: u64) {
     complain_of(b"recheck: block ", number, b": it is short (44); ");
-    complain(b"the blocks before it were written, and they are not the whole deck; ");
+    if number == 1 {
+        complain(
+            b"nothing was written; a file of lines is no deck (tools/make-deck makes one of it); else ",
+        );
+    } else {
+        complain(b"the blocks before it were written, and they are not the whole deck; ");
+    }
     complain(b"copy the old deck again and recheck it from its first block\n");
 }
 

@@ -5,7 +5,7 @@
 -- `ComesToTheFinish` by how many calls he comes to the finish.
 -- Three of these callers: `ListsOfParts` has the driver, `PartsOfOneSize` and `LinkedWhole` the two uploads that C and Rust link, `CallsForParts` how
 -- many calls the first of them takes, `DrivenToTheEnd` what they answer. `OldRecords` has how an upload without a check is read, `NeverUnchecked` that
--- no caller makes one, `UploadExamples` examples P3 to P8 of the rules, `EveryStep` what holds at every record.
+-- none comes of a start, `UploadExamples` examples P3 to P8 of the rules, `EveryStep` what holds at every record.
 -- A run of an upload: `UploadTransfers` has its control writes, `UploadSteps` how many steps it takes, `UploadRefusals` which refusals it can meet,
 -- `TwoWritesAreOne` that two writes to an area are one, `UploadLands` what the upload leaves, `UploadKeeps` what it keeps, `UploadMakes` that the
 -- device's record is one that calls from a fresh start can make, `UploadHandedBack` that the upload's is.

@@ -1,4 +1,4 @@
--- No caller makes an upload without a check: who begins with `new` or `write_area` and goes on to the finish has seen one only where the check is 0.
+-- Who begins with `new` or `write_area` and goes on to the finish has seen an upload without a check only where the check is 0.
 use Prim.Native.Nat.{ℕ}
 use mathlib.Core.Path.{_≡_, ap, sym, _∙_}
 use mathlib.Core.List.{List}
@@ -21,6 +21,7 @@ pub parts-never-unchecked : (area : ℕ) (taken : List ℕ) (ts : List Transfer)
     → (to : ℕ) (other : List ℕ) → ts ≡ uncheckedTransfers to other → check (padded taken) ≡ 0
 parts-never-unchecked area taken ts done to other e = list-unchecked area to taken other (sym (whatever-was-taken area taken ts done) ∙ e)
 
+-- whole, of a start that is not refused; each step that is not refused is lent the same image
 pub whole-never-unchecked : (area : ℕ) (image : List ℕ) (ts : List Transfer) → WholeFinishes area image ts
     → (to : ℕ) (other : List ℕ) → ts ≡ uncheckedTransfers to other → check (padded image) ≡ 0
 whole-never-unchecked area image ts done to other e = list-unchecked area to image other (sym (any-whole-caller image area ts done) ∙ e)

@@ -73,30 +73,30 @@ pub same-bytes : (a b : List ℕ) → padded a ≡ padded b → uncheckedBytes a
 same-bytes a b e =
     sym (of-padded a (ℕ-discrete (length a % 4096) 4095)) ∙ ap uncheckedBytes e ∙ of-padded b (ℕ-discrete (length b % 4096) 4095)
 
--- so they are the same, or one is the other and a zero behind it
+-- so they are the same, or one has a pad and is with it the other
 apart-by-pad : (a b : List ℕ) → padded a ≡ padded b → Dec (length a % 4096 ≡ 4095) → Dec (length b % 4096 ≡ 4095)
-    → (a ≡ b) ⊎ ((a ++ (0 ∷ []) ≡ b) ⊎ (b ++ (0 ∷ []) ≡ a))
+    → (a ≡ b) ⊎ (((length a % 4096 ≡ 4095) × (a ++ (0 ∷ []) ≡ b)) ⊎ ((length b % 4096 ≡ 4095) × (b ++ (0 ∷ []) ≡ a)))
 apart-by-pad a b e (yes p) (yes q) =
     let both : a ++ (0 ∷ []) ≡ b ++ (0 ∷ []) = sym (padded-pad a p) ∙ e ∙ padded-pad b q in
     let long : length a ≡ length b = omega (arith, ap length both, length-append a (0 ∷ []), length-append b (0 ∷ [])) in
     inl (sym (take-at a (0 ∷ []) (length b) long) ∙ ap (take (length b)) both ∙ take-at b (0 ∷ []) (length b) refl)
-apart-by-pad a b e (yes p) (no q) = inr (inl (sym (padded-pad a p) ∙ e ∙ padded-not b q))
-apart-by-pad a b e (no p) (yes q) = inr (inr (sym (padded-pad b q) ∙ sym e ∙ padded-not a p))
+apart-by-pad a b e (yes p) (no q) = inr (inl (p, sym (padded-pad a p) ∙ e ∙ padded-not b q))
+apart-by-pad a b e (no p) (yes q) = inr (inr (q, sym (padded-pad b q) ∙ sym e ∙ padded-not a p))
 apart-by-pad a b e (no p) (no q) = inl (sym (padded-not a p) ∙ e ∙ padded-not b q)
 
-pub no-others-alike : (a b : List ℕ) → uncheckedBytes a ≡ uncheckedBytes b → (a ≡ b) ⊎ ((a ++ (0 ∷ []) ≡ b) ⊎ (b ++ (0 ∷ []) ≡ a))
+pub no-others-alike : (a b : List ℕ) → uncheckedBytes a ≡ uncheckedBytes b
+    → (a ≡ b) ⊎ (((length a % 4096 ≡ 4095) × (a ++ (0 ∷ []) ≡ b)) ⊎ ((length b % 4096 ≡ 4095) × (b ++ (0 ∷ []) ≡ a)))
 no-others-alike a b e = apart-by-pad a b (same-image a b e) (ℕ-discrete (length a % 4096) 4095) (ℕ-discrete (length b % 4096) 4095)
 
 -- a record by its transfers: its area stands in each of them
-all-to : (area : ℕ) (pieces : List (List ℕ)) (t : Transfer) (ts : List Transfer) → map (transfer area) pieces ≡ t ∷ ts → t .setup .index ≡ area
-all-to area [] t ts e = absurd (let z : _≡_ {A = ℕ} 0 1 = cc in omega arith)
-all-to area (piece ∷ pieces) t ts e =
-    let first : transfer area piece ≡ t = cc in
-    ap (λ (x : Transfer). x .setup .index) (sym first)
+all-to : (area : ℕ) (pieces : List (List ℕ)) → map (λ (t : Transfer). t .setup .index) (map (transfer area) pieces) ≡ map (λ (piece : List ℕ). area) pieces
+all-to area [] = refl
+all-to area (piece ∷ pieces) = ap (λ (l : List ℕ). area ∷ l) (all-to area pieces)
 
-pub record-area : (area : ℕ) (image : List ℕ) (t : Transfer) (ts : List Transfer) → uncheckedTransfers area image ≡ t ∷ ts → t .setup .index ≡ area
+pub record-area : (area : ℕ) (image : List ℕ)
+    → map (λ (t : Transfer). t .setup .index) (uncheckedTransfers area image) ≡ map (λ (piece : List ℕ). area) (cut (uncheckedBytes image))
 unfolding uncheckedTransfers
-record-area area image t ts e = all-to area (cut (uncheckedBytes image)) t ts e
+record-area area image = all-to area (cut (uncheckedBytes image))
 
 pub record-bytes : (area : ℕ) (image : List ℕ) → recordBytes (uncheckedTransfers area image) ≡ uncheckedBytes image
 unfolding uncheckedTransfers

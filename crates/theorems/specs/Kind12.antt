@@ -10,7 +10,7 @@ use Rattle.deck.specs.Deal.{Head}
 use Rattle.deck.specs.Dealing.{load, dealBlock}
 use Rattle.theorems.specs.PartDriver.{sizesOf}
 
--- a block that asks for an image of n bytes is dealt as the upload of that image, and the transfers of that upload have these sizes. That its control
+-- a block that asks for the upload of an image of n bytes (kind 12 alone does) is dealt as the upload of that image, and the transfers of that upload have these sizes. That its control
 -- writes are these transfers is `fresh-loads` (proofs/UploadTransfers).
 abbrev pub Kind12 : ℕ → List ℕ → Type 0
 Kind12 n sizes =
