@@ -17,19 +17,33 @@ pub struct Transfer {
 /// Starts an upload of an image to an area.
 pub type Start = for<'a> fn(u16, &'a [u8]) -> MaskRomOperation<'a>;
 
-/// All transfers of an upload, from its start to the first step that is none; where that step and the next are not the
-/// finish, one transfer more that says so, which no upload has.
+/// What stands in the place of a header where an upload does not come to a finish that repeats.
+const NO_FINISH: &str = "no finish";
+
+/// The next transfer, or whether the step is the finish.
+fn next(operation: &mut MaskRomOperation<'_>) -> Result<Transfer, bool> {
+    match operation.step() {
+        UsbStep::WriteControl { request_type, request, value, index, data } => {
+            Ok(Transfer { header: format!("{request_type} {request} {value} {index}"), data: data.to_vec() })
+        }
+        step => Err(matches!(step, UsbStep::Finished(Ok(())))),
+    }
+}
+
+pub fn no_finish() -> Transfer {
+    Transfer { header: NO_FINISH.into(), data: Vec::new() }
+}
+
+/// All transfers of an upload, from its start to the first step that is none; where that step and the one behind it are
+/// not the finish, `no_finish` as well.
 pub fn transfers(mut operation: MaskRomOperation<'_>) -> Vec<Transfer> {
     let mut list = Vec::new();
     loop {
-        match operation.step() {
-            UsbStep::WriteControl { request_type, request, value, index, data } => list.push(Transfer {
-                header: format!("{request_type} {request} {value} {index}"),
-                data: data.to_vec(),
-            }),
-            UsbStep::Finished(Ok(())) if matches!(operation.step(), UsbStep::Finished(Ok(()))) => return list,
-            _ => {
-                list.push(Transfer { header: "no finish".into(), data: Vec::new() });
+        match next(&mut operation) {
+            Ok(transfer) => list.push(transfer),
+            Err(true) if matches!(next(&mut operation), Err(true)) => return list,
+            Err(_) => {
+                list.push(no_finish());
                 return list;
             }
         }
@@ -48,7 +62,7 @@ pub fn apart(length: usize, checked: &[Transfer], unchecked: &[Transfer]) -> Opt
     if count != wanted {
         return Some(format!("{count} transfers, and {wanted} were wanted"));
     }
-    if unchecked.last().is_none_or(|last| last.header == "no finish") {
+    if unchecked.last().is_none_or(|last| last.header == NO_FINISH) {
         return Some("it does not come to a finish that repeats".into());
     }
     let mut at = 0;

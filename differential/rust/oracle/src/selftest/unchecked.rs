@@ -8,7 +8,7 @@ use crate::{
     decks::{BLOCK, CHECKED, block_check},
     oracle::Oracle,
     text::hex,
-    unchecked::{Start, Transfer, apart, transfers},
+    unchecked::{Start, Transfer, apart, no_finish, transfers},
 };
 
 /// The first block of a deck, as a line: bytes 0 to 7, the byte at 8, and what is added to the check.
@@ -108,6 +108,16 @@ fn missed(length: usize) -> Vec<String> {
     bad
 }
 
+/// Two lists that are as they should be, but of uploads that come to no finish.
+fn unended(length: usize) -> Option<String> {
+    let (mut checked, mut unchecked) = both(length);
+    checked.push(no_finish());
+    unchecked.push(no_finish());
+    apart(length, &checked, &unchecked)
+        .is_none()
+        .then(|| format!("{length}: that there is no finish is not found"))
+}
+
 /// Uploads in place of the Rust's without a check: with one, of another image, and to another area.
 const PLANTED: [Start; 3] = [
     write_area,
@@ -124,6 +134,7 @@ pub fn planted() -> Vec<String> {
                 bad.push(format!("{length}: {what} is not found"));
             }
         }
+        bad.extend(unended(length));
     }
     [0, 5, 4093, 4094, 4095, 4096].into_iter().for_each(|length| bad.extend(missed(length)));
     PLANTED.into_iter().for_each(|start| bad.extend(asked(start)));
