@@ -31,7 +31,8 @@ resetRequest byte = asksReset (resetOf byte)
 abbrev pub switchRequest : ℕ → Request
 switchRequest byte = request.SwitchStorage (storageOf byte)
 
--- "1 chip info, 2 flash id, 3 flash info, 4 capability, 5 `erase_lba`, 6 `erase_force`, 7 read, 8 write, 9 reset, 10 storage, 11 switch, 12 upload"
+-- "1 chip info, 2 flash id, 3 flash info, 4 capability, 5 `erase_lba`, 6 `erase_force`, 7 read, 8 write, 9 reset, 10 storage, 11 switch, 12 upload";
+-- a kind that is none of the first eleven is 12 here, since `readBy` has refused any other
 unfoldable pub requestOf : Fields → Told Request
 requestOf f =
     pick (eqb (f .kind) chipInfoKind) (given request.ChipInfo)

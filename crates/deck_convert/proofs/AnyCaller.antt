@@ -138,13 +138,15 @@ module _ (r : Convert) (after before : List ℕ) (c : Convert) (m : ConvertMeets
     twice =
         second .leaves ∙ ap₂ (λ (t : ℕ) (l : List ℕ). convertAll t l) place (m .leaves) ∙ twice-all (c .tag) before ∙ sym (m .leaves)
 
+    second-record : s ≡ behindBlocks (convertBlocks (tagAfter (d .tag)) (blocksOf before)) d
+    second-record =
+        second .next ∙ ap (λ (bs : List (List ℕ)). behindBlocks bs d) (its-blocks ∙ ap (λ (t : ℕ). convertBlocks (tagAfter t) (blocksOf before)) (sym place))
+
     pub twice-none : s .converted ≡ d .converted
-    twice-none =
-        ap (λ (x : Convert). x .converted) (second .next ∙ ap (λ (bs : List (List ℕ)). behindBlocks bs d) (its-blocks ∙ ap (λ (t : ℕ). convertBlocks (tagAfter t) (blocksOf before)) (sym place)))
-        ∙ none-twice (blocksOf before) d
+    twice-none = ap (λ (x : Convert). x .converted) second-record ∙ none-twice (blocksOf before) d
 
     pub twice-left : d .left ≡ c .left → s .left ≡ r .left
     twice-left same =
-        ap (λ (x : Convert). x .left) (second .next ∙ ap (λ (bs : List (List ℕ)). behindBlocks bs d) (its-blocks ∙ ap (λ (t : ℕ). convertBlocks (tagAfter t) (blocksOf before)) (sym place)))
+        ap (λ (x : Convert). x .left) second-record
         ∙ left-twice (blocksOf before) d c place same
         ∙ sym (ap (λ (x : Convert). x .left) (m .next))

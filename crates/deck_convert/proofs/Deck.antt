@@ -1,4 +1,4 @@
--- A whole input, and any caller of `convert_chunk`: every block by itself, the lengths, the counts, and twice.
+-- A whole input: every block by itself, the lengths, the counts, and twice.
 use Prim.Native.Nat.{ℕ, zero, suc, _+_, _%_, _^_, _≤_, _<_}
 use mathlib.Core.Path.{_≡_, refl, ap, ap₂, sym, subst, _∙_}
 use mathlib.Core.Bool.{Bool, true, false, not}
@@ -71,7 +71,7 @@ twice-blocks tag (block ∷ blocks) = ap₂ (λ (b : List ℕ) (bs : List (List 
 pub twice-all : (last : ℕ) (input : List ℕ) → convertAll last (convertAll last input) ≡ convertAll last input
 twice-all last input = ap joined (ap (convertBlocks (tagAfter last)) (blocks-after last input) ∙ twice-blocks (tagAfter last) (blocksOf input))
 
--- the record behind blocks: the tag of the last, and how many were converted and left
+-- how many were converted and left
 one-counted : (more : Bool) (n : ℕ) → n < 2 ^ 64 → counted more n < 2 ^ 64
 one-counted true n small = omega arith
 one-counted false n small = small
@@ -80,23 +80,29 @@ counts-on : (more : Bool) (n k : ℕ) → (counted more n + k) % 2 ^ 64 ≡ (n +
 counts-on true n k = omega arith
 counts-on false n k = omega arith
 
+-- either count: how many of the blocks pass its test
+module _ (count : Convert → ℕ) (test : ℕ → List ℕ → Bool) (counts : (block : List ℕ) (c : Convert) → count (behind block c) ≡ counted (test (tagAfter (c .tag)) block) (count c)) where
+  count-through : (blocks : List (List ℕ)) (c : Convert) → count c < 2 ^ 64
+      → count (behindBlocks blocks c) ≡ (count c + howMany test (tagAfter (c .tag)) blocks) % 2 ^ 64
+  unfolding behindBlocks behind
+  count-through [] c small = sym (ap (λ (n : ℕ). n % 2 ^ 64) (let z : count c + 0 ≡ count c = omega arith in z) ∙ mod-eq-of-lt small)
+  count-through (block ∷ blocks) c small =
+      let tag = tagAfter (c .tag) in
+      let is = test tag block in
+      let more = howMany test (tagAfter tag) blocks in
+      count-through blocks (behind block c) (subst (λ (n : ℕ). n < 2 ^ 64) (sym (counts block c)) (one-counted is (count c) small))
+      ∙ ap (λ (n : ℕ). (n + more) % 2 ^ 64) (counts block c)
+      ∙ counts-on is (count c) more
+
 pub converted-count : (blocks : List (List ℕ)) (c : Convert) → c .converted < 2 ^ 64
     → behindBlocks blocks c .converted ≡ (c .converted + howMany isConverted (tagAfter (c .tag)) blocks) % 2 ^ 64
-unfolding behindBlocks behind
-converted-count [] c small = sym (ap (λ (n : ℕ). n % 2 ^ 64) (let z : c .converted + 0 ≡ c .converted = omega arith in z) ∙ mod-eq-of-lt small)
-converted-count (block ∷ blocks) c small =
-    let tag = tagAfter (c .tag) in
-    let is = isConverted tag block in
-    converted-count blocks (behind block c) (one-counted is (c .converted) small) ∙ counts-on is (c .converted) (howMany isConverted (tagAfter tag) blocks)
+unfolding behind
+converted-count = count-through (λ (c : Convert). c .converted) isConverted (λ block c. refl)
 
 pub left-count : (blocks : List (List ℕ)) (c : Convert) → c .left < 2 ^ 64
     → behindBlocks blocks c .left ≡ (c .left + howMany isLeft (tagAfter (c .tag)) blocks) % 2 ^ 64
-unfolding behindBlocks behind
-left-count [] c small = sym (ap (λ (n : ℕ). n % 2 ^ 64) (let z : c .left + 0 ≡ c .left = omega arith in z) ∙ mod-eq-of-lt small)
-left-count (block ∷ blocks) c small =
-    let tag = tagAfter (c .tag) in
-    let is = isLeft tag block in
-    left-count blocks (behind block c) (one-counted is (c .left) small) ∙ counts-on is (c .left) (howMany isLeft (tagAfter tag) blocks)
+unfolding behind
+left-count = count-through (λ (c : Convert). c .left) isLeft (λ block c. refl)
 
 -- of converted blocks none is converted again, and as many are left
 pub none-twice : (blocks : List (List ℕ)) (c : Convert) → behindBlocks (convertBlocks (tagAfter (c .tag)) blocks) c .converted ≡ c .converted

@@ -252,6 +252,13 @@ pub short-end-not-counted : (r : Convert) (after : List ℕ) → r .tag ≡ 0 �
 unfolding cut behindBlocks behind
 short-end-not-counted r after none m = let n : r .tag ≡ 1 = ap (λ (d : Convert). d .tag) (m .next) in omega (arith, n, none)
 
+-- a short end of kind 13 counted as a block that is left
+pub short-end-left : (r : Convert) (after : List ℕ) → r .left ≡ 1 → ConvertMeets r after (13 ∷ []) newConvert → ⊥
+unfolding cut behindBlocks behind
+short-end-left r after one m =
+    let n : r .left ≡ 0 = ap (λ (d : Convert). d .left) (m .next) ∙ ap (λ (b : Bool). counted b 0) (short-neither 1 (13 ∷ []) (lit< tt) .1) in
+    omega (arith, n, one)
+
 -- the tag stays at 4,294,967,295
 pub tag-stays : (r : Convert) (after : List ℕ) (converted left : ℕ) → r .tag ≡ 4294967295
     → ConvertMeets r after (13 ∷ []) (record { tag = 4294967295; converted = converted; left = left }) → ⊥

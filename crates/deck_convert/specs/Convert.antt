@@ -11,7 +11,7 @@ use Rattle.deck_block.specs.Place.{tagAfter}
 use Rattle.deck_block.specs.Blocks.{isShort, blocksOf, joined}
 use Rattle.deck_convert.specs.declared.Convert.{Convert}
 
--- "kind 13 blocks": whole ones, since a short end is no block
+-- "kind 13 blocks": whole ones; a short last block is copied like all else
 abbrev pub isUnchecked : List ℕ → Bool
 isUnchecked block = pick (isShort block) false (eqb (fieldsOf block .kind) uncheckedKind)
 
