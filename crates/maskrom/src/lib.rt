@@ -306,16 +306,6 @@ fn chunk_size(steps: MaskRomSteps, left: usize) -> usize
     }
 }
 
-// The bytes at the front of a block of zeros.
-fn block_of(bytes: &[u8]) -> [u8; 4096]
-    requires { ⌜ length (now bytes) ≤ 4096 ⌝ }
-    ensures { λ r. ⌜ take (length (now (bytes .entry))) r ≡ now (bytes .entry) ⌝ }
-{
-    let mut block = [0u8; 4096];
-    bytes::copy(bytes, &mut block);
-    block
-}
-
 impl WholeUpload {
     fn moved_on(self, n: usize, to: Moved) -> WholeUpload
         requires { ⌜ self .taken + n ≤ 4294967295 ⌝ }
@@ -344,8 +334,7 @@ impl WholeUpload {
         let n = chunk.len();
         let steps = self.steps;
         let crc = crc::update(self.crc, chunk);
-        let block = block_of(chunk);
-        let sent = maskrom_transfer::send(steps, crc, block, n, out);
+        let sent = maskrom_transfer::send_lent(steps, crc, chunk, out);
         let Sent::Moved(to) = sent else {
             return self.after_step(UploadStep::OutputTooShort);
         };

@@ -1,9 +1,9 @@
 -- One law for each branch of a definition, and what the promises of callers are made from.
-use Prim.Native.Nat.{ℕ, _<_, _≤_}
+use Prim.Native.Nat.{ℕ, _+_, _<_, _≤_}
 use mathlib.Core.Path.{_≡_, refl, ap, ap₂, sym, subst, _∙_}
-use mathlib.Core.List.{List, [], _∷_, _++_}
+use mathlib.Core.List.{List, [], _∷_, _++_, append-assoc}
 use native.Mathlib.Omega.{arith}
-use lib.ListN.{length}
+use lib.ListN.{length, set, length-append}
 use borrow.Author.Tests.{eq-eqb, ne-eqb, lt-ltb, le-ltb}
 use Rattle.crc.specs.Check.{crcOver}
 use Rattle.promise.specs.Told.{Told, given, refused, andThen}
@@ -13,7 +13,8 @@ use Rattle.maskrom_transfer.specs.declared.Moved.{Moved}
 use Rattle.maskrom_transfer.specs.declared.MaskRomSteps.{MaskRomSteps}
 use Rattle.maskrom_transfer.specs.declared.MaskRomSteps.the-variants.{Writing, Check, Dummy, Done}
 use Rattle.maskrom_transfer.specs.Moves.{checkBytes, Moves, moves, writing, movesAt}
-use Rattle.maskrom_transfer.specs.Code.{SendMeets}
+use Rattle.maskrom_transfer.specs.Code.{PutMeets, SendMeets}
+use Rattle.maskrom_transfer.proofs.Lists.{stored}
 use Rattle.promise.specs.Does.{Does, does, said, sent, after, Meets}
 use Rattle.maskrom_transfer.specs.Sending.{moved, sendStep}
 
@@ -36,8 +37,24 @@ module _ (crc : ℕ) (w : List ℕ) where
   writing-last h =
       rw (ne-eqb (length w) 4096 (omega arith), ne-eqb (length w) 4095 (omega arith), ne-eqb (length w) 4094 (omega arith))
 
+-- a byte stored behind bytes that were put at the front, and two
+pub put-byte : (n v : ℕ) (bs old new : List ℕ) → PutMeets n bs old new → length bs < length old → PutMeets (n + 1) (bs ++ (v ∷ [])) old (set new n v)
+put-byte n v bs old new h fits = (
+  ap (λ (k : ℕ). k + 1) (h .0) ∙ sym (length-append bs (v ∷ [])),
+  ap₂ (λ (l : List ℕ) (k : ℕ). set l k v) (h .1) (h .0) ∙ stored bs old v fits,
+)
+
+pub put-two : (n u v : ℕ) (bs old new : List ℕ) → PutMeets n bs old new → length bs + 1 < length old
+    → PutMeets (n + 2) (bs ++ (u ∷ v ∷ [])) old (set (set new n u) (n + 1) v)
+put-two n u v bs old new h fits =
+    let longer : length (bs ++ (u ∷ [])) < length old = simp length-append (omega arith) in
+    let both = put-byte (n + 1) v (bs ++ (u ∷ [])) old (set new n u) (put-byte n u bs old new h (omega arith)) longer in (
+      ap (λ (k : ℕ). k + 2) (h .0) ∙ sym (length-append bs (u ∷ v ∷ [])),
+      both .1 ∙ ap (λ (l : List ℕ). front l old) (append-assoc bs (u ∷ []) (v ∷ [])),
+    )
+
 -- bytes put at the front are the step's, where they are the step's bytes
-pub meets : (size crc crc′ : ℕ) (steps : MaskRomSteps) (bs bs′ old new : List ℕ) → (size ≡ length bs) × (new ≡ front bs old) → bs ≡ bs′
+pub meets : (size crc crc′ : ℕ) (steps : MaskRomSteps) (bs bs′ old new : List ℕ) → PutMeets size bs old new → bs ≡ bs′
     → crc ≡ crc′ → SendMeets (record { size = size; crc = crc; steps = steps }) old new (moves bs′ crc′ steps)
 meets size crc crc′ steps bs bs′ old new h e k =
     subst (λ (l : List ℕ). SendMeets (record { size = size; crc = crc; steps = steps }) old new (moves l crc′ steps)) e

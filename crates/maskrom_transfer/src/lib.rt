@@ -1,12 +1,11 @@
-// One transfer of an upload, put together: what is left of the image at the front of a block, then the pad, the check or the last zero.
+// One transfer of an upload, put together in the output: what is left of the image at its front, then the pad, the check or the last zero.
 ghost use mathlib.Core.Path.{_≡_};
 ghost use mathlib.Core.List.{[], _∷_, _++_};
 ghost use Prim.Native.Nat.{_+_, _≤_, min};
 ghost use lib.ListN.{length, take};
-ghost use Rattle.promise.specs.Bytes.{front};
 ghost use Rattle.promise.specs.Told.{number};
 ghost use Rattle.maskrom_transfer.specs.Moves.{checkBytes, writing, movesAt};
-ghost use Rattle.maskrom_transfer.specs.Code.{SendMeets};
+ghost use Rattle.maskrom_transfer.specs.Code.{PutMeets, SendMeets};
 ghost use Rattle.promise.specs.Does.{Meets};
 ghost use Rattle.maskrom_transfer.specs.Sending.{sentTold, sendStep};
 
@@ -50,53 +49,54 @@ fn least(a: usize, b: usize) -> usize
     if a < b { a } else { b }
 }
 
-fn with_zero(block: [u8; 4096], n: usize) -> [u8; 4096]
-    requires { ⌜ n + 1 ≤ 4096 ⌝ }
-    ensures { λ r. ⌜ take (n + 1) r ≡ take n block ++ (0 ∷ []) ⌝ }
+// The bytes go to the front of the output.
+fn put(bytes: &[u8], out: &mut [u8]) -> usize
+    requires { ⌜ length (now bytes) ≤ length (now out) ⌝ }
+    ensures { λ r. ⌜ PutMeets r (now (bytes .entry)) (now (out .entry)) (now (out .exit)) ⌝ }
 {
-    let mut b = block;
-    b[n] = 0;
-    b
+    bytes::copy(bytes, out)
 }
 
-fn with_check(block: [u8; 4096], n: usize, check: u16) -> [u8; 4096]
-    requires { ⌜ n + 2 ≤ 4096 ⌝ }
-    ensures { λ r. ⌜ take (n + 2) r ≡ take n block ++ checkBytes check ⌝ }
+// The same with a zero behind them.
+fn with_zero(bytes: &[u8], out: &mut [u8]) -> usize
+    requires { ⌜ length (now bytes) + 1 ≤ length (now out) ⌝ }
+    ensures { λ r. ⌜ PutMeets r (now (bytes .entry) ++ (0 ∷ [])) (now (out .entry)) (now (out .exit)) ⌝ }
 {
-    let mut b = block;
-    b[n] = (check / 256) as u8;
-    b[n + 1] = (check % 256) as u8;
-    b
+    let n = put(bytes, out);
+    out[n] = 0;
+    n + 1
 }
 
-// The first n bytes of the block go to the front of the output.
-fn put(block: [u8; 4096], n: usize, out: &mut [u8]) -> usize
-    requires { ⌜ (n ≤ 4096) × (4096 ≤ length (now out)) ⌝ }
-    ensures { λ r. ⌜ (r ≡ length (take n block)) × (now (out .exit) ≡ front (take n block) (now (out .entry))) ⌝ }
+// The same with the check behind them.
+fn with_check(bytes: &[u8], check: u16, out: &mut [u8]) -> usize
+    requires { ⌜ length (now bytes) + 2 ≤ length (now out) ⌝ }
+    ensures { λ r. ⌜ PutMeets r (now (bytes .entry) ++ checkBytes check) (now (out .entry)) (now (out .exit)) ⌝ }
 {
-    bytes::copy(&block[..n], out)
+    let n = put(bytes, out);
+    out[n] = (check / 256) as u8;
+    out[n + 1] = (check % 256) as u8;
+    n + 2
 }
 
-// The next n bytes of the image stand at the front of the block, and the check covers them.
-fn write_on(crc: u16, block: [u8; 4096], n: usize, out: &mut [u8]) -> Moved
-    requires { ⌜ (n ≤ 4096) × (4096 ≤ length (now out)) ⌝ }
-    ensures { λ r. ⌜ SendMeets r (now (out .entry)) (now (out .exit)) (writing crc (take n block)) ⌝ }
+// The bytes are the next of the image, and the check covers them.
+fn write_on(crc: u16, bytes: &[u8], out: &mut [u8]) -> Moved
+    requires { ⌜ (length (now bytes) ≤ 4096) × (4096 ≤ length (now out)) ⌝ }
+    ensures { λ r. ⌜ SendMeets r (now (out .entry)) (now (out .exit)) (writing crc (now (bytes .entry))) ⌝ }
 {
+    let n = bytes.len();
     if n == 4096 {
-        let size = put(block, n, out);
+        let size = put(bytes, out);
         let steps = MaskRomSteps::Writing;
         return Moved { size, crc, steps };
     }
     if n == 4095 {
-        let padded = with_zero(block, n);
-        let size = put(padded, n + 1, out);
+        let size = with_zero(bytes, out);
         let zero = [0u8; 1];
         let crc = crc::update(crc, &zero);
         let steps = MaskRomSteps::Check;
         return Moved { size, crc, steps };
     }
-    let last = with_check(block, n, crc);
-    let size = put(last, n + 2, out);
+    let size = with_check(bytes, crc, out);
     if n == 4094 {
         let steps = MaskRomSteps::Dummy;
         return Moved { size, crc, steps };
@@ -108,15 +108,14 @@ fn write_on(crc: u16, block: [u8; 4096], n: usize, out: &mut [u8]) -> Moved
     }
 }
 
-fn send_at(steps: MaskRomSteps, crc: u16, block: [u8; 4096], n: usize, out: &mut [u8]) -> Moved
-    requires { ⌜ (n ≤ 4096) × (4096 ≤ length (now out)) ⌝ }
-    ensures { λ r. ⌜ SendMeets r (now (out .entry)) (now (out .exit)) (movesAt steps crc (take n block)) ⌝ }
+fn send_at(steps: MaskRomSteps, crc: u16, bytes: &[u8], out: &mut [u8]) -> Moved
+    requires { ⌜ (length (now bytes) ≤ 4096) × (4096 ≤ length (now out)) ⌝ }
+    ensures { λ r. ⌜ SendMeets r (now (out .entry)) (now (out .exit)) (movesAt steps crc (now (bytes .entry))) ⌝ }
 {
     match steps {
-        MaskRomSteps::Writing => write_on(crc, block, n, out),
+        MaskRomSteps::Writing => write_on(crc, bytes, out),
         MaskRomSteps::Check => {
-            let last = with_check(block, 0, crc);
-            let size = put(last, 2, out);
+            let size = with_check(&bytes[..0], crc, out);
             Moved {
                 size,
                 crc,
@@ -124,8 +123,7 @@ fn send_at(steps: MaskRomSteps, crc: u16, block: [u8; 4096], n: usize, out: &mut
             }
         }
         MaskRomSteps::Dummy => {
-            let zero = with_zero(block, 0);
-            let size = put(zero, 1, out);
+            let size = with_zero(&bytes[..0], out);
             Moved {
                 size,
                 crc,
@@ -140,14 +138,23 @@ fn send_at(steps: MaskRomSteps, crc: u16, block: [u8; 4096], n: usize, out: &mut
     }
 }
 
-// One step of an image of which no more will come: the first n bytes of the block are what is left of it, and the check covers them.
-pub fn send(steps: MaskRomSteps, crc: u16, block: [u8; 4096], n: usize, out: &mut [u8]) -> Sent
-    ensures { λ r. ⌜ Meets (sentTold r) tt (now (out .entry)) (now (out .exit)) tt (sendStep steps crc (take n block) (length (now (out .entry)))) ⌝ }
+// One step of an image of which no more will come: the bytes, as far as one transfer can hold them, are what is left of it, and the check covers
+// them. They are copied once, straight into the output, and the transfer is put together there.
+pub fn send_lent(steps: MaskRomSteps, crc: u16, bytes: &[u8], out: &mut [u8]) -> Sent
+    ensures { λ r. ⌜ Meets (sentTold r) tt (now (out .entry)) (now (out .exit)) tt (sendStep steps crc (take 4096 (now (bytes .entry))) (length (now (out .entry)))) ⌝ }
 {
     if out.len() < BLOCK {
         return Sent::OutputTooShort;
     }
-    let left = least(n, BLOCK);
-    let to = send_at(steps, crc, block, left, out);
+    let left = least(bytes.len(), BLOCK);
+    let to = send_at(steps, crc, &bytes[..left], out);
     Sent::Moved(to)
+}
+
+// The same, of the first n bytes of a block.
+pub fn send(steps: MaskRomSteps, crc: u16, block: [u8; 4096], n: usize, out: &mut [u8]) -> Sent
+    ensures { λ r. ⌜ Meets (sentTold r) tt (now (out .entry)) (now (out .exit)) tt (sendStep steps crc (take n block) (length (now (out .entry)))) ⌝ }
+{
+    let left = least(n, BLOCK);
+    send_lent(steps, crc, &block[..left], out)
 }

@@ -1,48 +1,51 @@
--- The test is the rule of 20; past it the step is what `send_at` gives, since no more than the whole block can be left (`take-min`).
+-- The bytes that are lent on are the first n of the block (`take-min`), and no more than one transfer can hold.
 use Prim.Native.Nat.{ℕ, min}
-use mathlib.Core.Path.{_≡_, refl, ap, sym, subst, _∙_}
+use mathlib.Core.Path.{_≡_, ap, sym, subst, _∙_}
 use mathlib.Core.List.{List}
+use native.Mathlib.Omega.{arith}
 use borrow.Author.Needs.{needs}
 use denote.Ref.{now}
 use lib.ListN.{length, take}
-use Rattle.promise.specs.Told.{given}
-use Rattle.maskrom_transfer.specs.declared.Moved.{Moved}
-use Rattle.maskrom_transfer.specs.Moves.{movesAt}
-use Rattle.maskrom_transfer.specs.Code.{SendMeets}
-use Rattle.promise.specs.Does.{does}
-use Rattle.maskrom_transfer.specs.Sending.{sentTold, moved}
+use lib.Seq.{length-take-le, take-all}
+use Rattle.promise.specs.Does.{Meets}
+use Rattle.maskrom_transfer.specs.Sending.{sentTold, sendStep}
 use Rattle.maskrom_transfer.proofs.Lists.{take-min}
-use Rattle.maskrom_transfer.proofs.Cases.{keeps, acts, moved-is, send-20, send-acts}
 use Rattle.maskrom_transfer.proofs.send.Statement.{statement}
 use Rattle.maskrom_transfer.proofs.send.Tie as tie
-use Rattle.promise.specs.Rules.{tooShort}
 
-returns : tie.Need-returns
-unfolding sentTold
-returns c =
-    let a = c .before .before .args in
-    keeps tooShort (send-20 (a .steps) (a .crc) (take (a .n) (a .block)) (length (now (a .out))) (c .if1 .taken)) refl refl refl
-
-block-long : (s : tie.Start) → length (s .args .block) ≡ 4096
+block-long : (s : tie.Start) → length (s .args .t3) ≡ 4096
 block-long s = search needs
 
-returns-2 : tie.Need-returns-2
-unfolding sentTold
-returns-2 c =
+-- the bytes that are lent on
+module _ (k : tie.After-least) where
+  long : length (take (k .least .result) (k .before .before .args .t3)) ≡ k .least .result
+  long = length-take-le (k .least .result) (k .before .before .args .t3) (omega (arith, k .least .ensures, block-long (k .before .before)))
+
+  same : take 4096 (take (k .least .result) (k .before .before .args .t3)) ≡ take (k .before .before .args .n) (k .before .before .args .t3)
+  same =
+      let b = k .before .before .args .t3 in
+      let n = k .before .before .args .n in
+      take-all 4096 (take (k .least .result) b) (omega (arith, long, k .least .ensures))
+      ∙ ap (λ (m : ℕ). take m b) (k .least .ensures ∙ ap (min n) (sym (block-long (k .before .before))))
+      ∙ take-min n b
+
+returns : tie.Need-returns
+returns c =
     let p = c .before .before in
-    let k = p .before .before in
-    let s = k .before .before .before in
-    let a = s .args in
-    let w = take (a .n) (a .block) in
-    let to = movesAt (a .steps) (a .crc) w in
-    let same : take (k .least .result) (a .block) ≡ w =
-    ap (λ (n : ℕ). take n (a .block)) (k .least .ensures ∙ ap (min (a .n)) (sym (block-long s))) ∙ take-min (a .n) (a .block) in
-    let m : SendMeets (p .send-at .result) (now (a .out)) (p .send-at .last .1 .1 .1 .1 .0) to =
-    subst (λ (l : List ℕ). SendMeets (p .send-at .result) (now (a .out)) (p .send-at .last .1 .1 .1 .1 .0) (movesAt (a .steps) (a .crc) l)) same (p .send-at .ensures) in
-    acts (does (moved to) (to .bytes) tt) (send-acts (a .steps) (a .crc) w (length (now (a .out))) (k .before .if1 .left))
-    (ap (λ (r : Moved). given r) (moved-is (p .send-at .result) (now (a .out)) (p .send-at .last .1 .1 .1 .1 .0) to m)) refl (m .leaves)
+    let k = p .before .before .before in
+    let a = k .before .before .args in
+    let new = p .send-lent .last .1 .1 .1 .0 in
+    subst (λ (l : List ℕ). Meets (sentTold (p .send-lent .result)) tt (now (a .out)) new tt (sendStep (a .steps) (a .crc) l (length (now (a .out)))))
+    (same k)
+    (p .send-lent .ensures)
 
 pub send-spec : {M : Type 1} → statement M
 send-spec =
     tie.close
-    (tie.spec returns (λ c κs. search needs) (λ c κs. search needs) (λ c. search needs) returns-2)
+    (tie.spec
+    (λ c κs. search needs)
+    (λ c. search needs)
+    (λ c. sym (long (c .before)))
+    (λ c κs. search needs)
+    (λ c. search needs)
+    returns)

@@ -17,7 +17,8 @@ use Rattle.maskrom.specs.Answers.{tooLong, closedAlready, control, took,
 use Rattle.promise.specs.Does.{does}
 use Rattle.maskrom.specs.PartWise.{waiting, held, closed, holding, takes, partStep}
 use Rattle.maskrom.proofs.Lists.{filled-block, filled-length}
-use Rattle.maskrom_transfer.proofs.Lists.{take-min, copied}
+use Rattle.promise.proofs.Copied.{copied-front}
+use Rattle.maskrom_transfer.proofs.Lists.{take-min}
 use Rattle.maskrom_transfer.proofs.Cases.{keeps, acts}
 use Rattle.maskrom.proofs.Cases.{is-closed, part-20, part-26, part-25, part-takes, takes-full, takes-some}
 use Rattle.maskrom.proofs.MaskRomOperation.part.Statement.{statement}
@@ -107,7 +108,7 @@ returns-5 c =
     (ap (λ (r : PartStepped). partTold (r .step)) (c .after-part5 .ensures)
     ∙ ap₂ (λ (n : ℕ) (k : Control). given (filled n k)) (sym (many k)) (c .before .control-of .ensures ∙ ap (control (m .area)) size))
     (ap (λ (r : PartStepped). r .next) (c .after-part5 .ensures) ∙ h .hold .ensures)
-    (copied (h .hold .result .block) (now (a .out)) (p .copy .last .1 .0) (p .copy .ensures .1) ∙ ap (λ (l : List ℕ). front l (now (a .out))) block)
+    (copied-front (h .hold .result .block) (now (a .out)) (p .copy .last .1 .0) (p .copy .ensures .1) ∙ ap (λ (l : List ℕ). front l (now (a .out))) block)
 
 pub part-spec : {M : Type 1} → statement M
 part-spec =
