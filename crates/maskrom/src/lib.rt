@@ -3,6 +3,7 @@
 ghost use mathlib.Core.Path.{_≡_};
 ghost use Prim.Native.Nat.{_+_, _≤_, min};
 ghost use lib.ListN.{length, take};
+ghost use Rattle.crc.specs.Check.{crcOver};
 ghost use Rattle.promise.specs.Told.{given, number};
 ghost use Rattle.promise.specs.Does.{Meets};
 ghost use Rattle.maskrom.specs.Answers.{control, partTold, stepTold, startTold};
@@ -19,6 +20,8 @@ const BLOCK: usize = 4096;
 const LONGEST: usize = 4_294_967_295;
 
 const CRC_START: u16 = 0xFFFF;
+
+const FEW: usize = 16;
 
 // A control write with the first `size` bytes of the output.
 pub struct Control {
@@ -306,6 +309,17 @@ fn chunk_size(steps: MaskRomSteps, left: usize) -> usize
     }
 }
 
+// The check over the chunk. One of few bytes goes by the table at once: `crc::update` would do no other with them, but it keeps room on the stack for
+// a table of its own meanwhile.
+fn crc_over(crc: u16, chunk: &[u8]) -> u16
+    ensures { λ r. ⌜ r ≡ crcOver crc (now (chunk .entry)) ⌝ }
+{
+    if chunk.len() < FEW {
+        return crc::update_by_table(crc, chunk);
+    }
+    crc::update(crc, chunk)
+}
+
 impl WholeUpload {
     fn moved_on(self, n: usize, to: Moved) -> WholeUpload
         requires { ⌜ self .taken + n ≤ 4294967295 ⌝ }
@@ -333,7 +347,7 @@ impl WholeUpload {
     {
         let n = chunk.len();
         let steps = self.steps;
-        let crc = crc::update(self.crc, chunk);
+        let crc = crc_over(self.crc, chunk);
         let sent = maskrom_transfer::send_lent(steps, crc, chunk, out);
         let Sent::Moved(to) = sent else {
             return self.after_step(UploadStep::OutputTooShort);

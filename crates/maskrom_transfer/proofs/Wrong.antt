@@ -3,10 +3,11 @@ use Prim.Native.Nat.{ℕ}
 use mathlib.Core.Path.{_≡_, ap, sym, _∙_}
 use mathlib.Core.List.{List, [], _∷_}
 use native.Mathlib.Omega.{arith}
-use lib.ListN.{getD, take, replicate, length-replicate}
+use lib.ListN.{length, getD, take, replicate, length-replicate}
+use lib.Seq.{length-take-le}
 use lib.Dec.{lit≤}
 use Rattle.promise.specs.Told.{Told, given, refused, number}
-use Rattle.promise.specs.Bytes.{lowFirst, highFirst}
+use Rattle.promise.specs.Bytes.{lowFirst, highFirst, front}
 use Rattle.promise.specs.Rules.{orRefuse}
 use Rattle.maskrom_transfer.specs.declared.Moved.{Moved}
 use Rattle.maskrom_transfer.specs.declared.MaskRomSteps.{MaskRomSteps}
@@ -14,23 +15,23 @@ use Rattle.maskrom_transfer.specs.declared.MaskRomSteps.the-variants.{Wr
 use Rattle.maskrom_transfer.specs.declared.Sent.{Sent}
 use Rattle.maskrom_transfer.specs.declared.Sent.the-variants as answer
 use Rattle.maskrom_transfer.specs.Moves.{Moves, movesAt, writing}
-use Rattle.promise.specs.Does.{Meets, said, sent}
+use Rattle.promise.specs.Does.{Does, Meets, said, sent}
 use Rattle.maskrom_transfer.specs.Sending.{sentTold, moved, sendStep}
-use Rattle.maskrom_transfer.proofs.Cases.{writing-dummy, send-acts}
+use Rattle.maskrom_transfer.proofs.Cases.{writing-block, writing-dummy, send-acts}
 
--- `send`: the check with its low byte first, of an image that has ended at the register 1
+-- `send`, `send_lent`: the check with its low byte first, of an image that has ended at the register 1
 pub low-byte-first : (r : Sent) (old new : List ℕ) → Meets (sentTold r) tt old new tt (sendStep Writing 1 [] 4096)
     → getD new 0 0 ≡ 1 → ⊥
 unfolding sendStep orRefuse movesAt writing highFirst lowFirst sent
 low-byte-first r old new meets first =
     let differ : _≡_ {A = ℕ} 1 0 = sym first ∙ ap (λ (l : List ℕ). getD l 0 0) (meets .leaves) in omega arith
 
--- `send`: a step that leaves the output as it was
+-- `send`, `send_lent`: a step that leaves the output as it was
 pub nothing-sent : (r : Sent) (rest : List ℕ) → Meets (sentTold r) tt (0 ∷ 0 ∷ rest) (0 ∷ 0 ∷ rest) tt (sendStep Writing 1 [] 4096) → ⊥
 unfolding sendStep orRefuse movesAt writing highFirst lowFirst sent
 nothing-sent r rest meets = let differ : _≡_ {A = ℕ} 0 1 = ap (λ (l : List ℕ). getD l 1 0) (meets .leaves) in omega arith
 
--- `send`: two zeros in the place of the check, as an upload without one had
+-- `send`, `send_lent`: two zeros in the place of the check, as an upload without one had
 pub zeros-for-the-check : (r : Sent) (old new : List ℕ) → Meets (sentTold r) tt old new tt (sendStep Writing 1 [] 4096)
     → take 2 new ≡ 0 ∷ 0 ∷ [] → ⊥
 unfolding sendStep orRefuse movesAt writing highFirst lowFirst sent
@@ -48,7 +49,7 @@ placed : Told Moved → ℕ
 placed (given m) = place (m .steps)
 placed (refused n vs) = 4
 
--- `send`: no zero is left to send after 4,094 bytes
+-- `send`, `send_lent`: no zero is left to send after 4,094 bytes
 pub no-last-zero : (r : Sent) (m : Moved) (old new : List ℕ) → sentTold r ≡ given m → m .steps ≡ Done
     → Meets (sentTold r) tt old new tt (sendStep Writing 0 (replicate 4094 0) 4096) → ⊥
 unfolding said movesAt placed place
@@ -58,6 +59,31 @@ no-last-zero r m old new told done meets =
     let differ : _≡_ {A = ℕ} 3 2 =
     ap place (sym done) ∙ ap placed (sym told ∙ meets .tells ∙ dummy)
     ∙ ap (λ (to : Moves). place (to .steps)) (writing-dummy 0 w (length-replicate {A = ℕ} 4094 0)) in
+    omega arith
+
+-- `send_lent`: bytes for more than one transfer taken for the last ones
+pub too-many-as-last : (r : Sent) (m : Moved) (old new : List ℕ) → sentTold r ≡ given m → m .steps ≡ Done
+    → Meets (sentTold r) tt old new tt (sendStep Writing 0 (take 4096 (replicate 4097 0)) 4096) → ⊥
+unfolding said movesAt placed place
+too-many-as-last r m old new told done meets =
+    let w : List ℕ = take 4096 (replicate 4097 0) in
+    let full : length w ≡ 4096 = length-take-le {A = ℕ} 4096 (replicate 4097 0) (omega (arith, length-replicate {A = ℕ} 4097 0)) in
+    let differ : _≡_ {A = ℕ} 3 0 =
+    ap place (sym done) ∙ ap placed (sym told ∙ meets .tells ∙ ap said (send-acts Writing 0 w 4096 (lit≤ tt)))
+    ∙ ap (λ (to : Moves). place (to .steps)) (writing-block 0 w full) in
+    omega arith
+
+-- `send_lent`: the first byte left out, of 1 and then 4,096 zeros
+pub first-byte-left-out : (r : Sent) (old new : List ℕ) → getD new 0 0 ≡ 0
+    → Meets (sentTold r) tt old new tt (sendStep Writing 0 (take 4096 (1 ∷ replicate 4096 0)) 4096) → ⊥
+unfolding sent movesAt
+first-byte-left-out r old new zero meets =
+    let w : List ℕ = take 4096 (1 ∷ replicate 4096 0) in
+    let full : length w ≡ 4096 = length-take-le {A = ℕ} 4096 (1 ∷ replicate 4096 0) (omega (arith, length-replicate {A = ℕ} 4096 0)) in
+    let leaves : new ≡ front (writing 0 w .bytes) old =
+    meets .leaves ∙ ap (λ (t : Told (Does Moved Unit)). front (sent t) old) (send-acts Writing 0 w 4096 (lit≤ tt)) in
+    let differ : _≡_ {A = ℕ} 0 1 =
+    sym zero ∙ ap (λ (l : List ℕ). getD l 0 0) (leaves ∙ ap (λ (to : Moves). front (to .bytes) old) (writing-block 0 w full)) in
     omega arith
 
 -- `Sent::number`: one number for every answer

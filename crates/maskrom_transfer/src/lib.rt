@@ -92,7 +92,7 @@ fn write_on(crc: u16, bytes: &[u8], out: &mut [u8]) -> Moved
     if n == 4095 {
         let size = with_zero(bytes, out);
         let zero = [0u8; 1];
-        let crc = crc::update(crc, &zero);
+        let crc = crc::update_by_table(crc, &zero);
         let steps = MaskRomSteps::Check;
         return Moved { size, crc, steps };
     }

@@ -29,8 +29,8 @@ returns-2 c =
     let a = p .before .before .before .before .before .before .args in
     let w = now (a .bytes) in
     rw (writing-pad (a .crc) w (p .before .before .if2 .taken))
-    (meets (p .with-zero .result) (c .update .result) (crcOver (a .crc) (0 ∷ [])) Check (w ++ (0 ∷ [])) (w ++ (0 ∷ [])) (now (a .out)) (p .with-zero .last .1 .0)
-    (p .with-zero .ensures) refl (c .update .ensures))
+    (meets (p .with-zero .result) (c .update-by-table .result) (crcOver (a .crc) (0 ∷ [])) Check (w ++ (0 ∷ [])) (w ++ (0 ∷ [])) (now (a .out)) (p .with-zero .last .1 .0)
+    (p .with-zero .ensures) refl (c .update-by-table .ensures))
 
 -- the bytes with the check behind them, once they are put
 behind : (p : tie.After-with-check) (steps : MaskRomSteps)

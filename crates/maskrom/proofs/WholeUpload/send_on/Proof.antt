@@ -39,7 +39,7 @@ sent-chunk k =
     let a = s .args in
     let u = a .self in
     subst (λ (step : Told (Does Moved Unit)). Meets (sentTold (k .send-lent .result)) tt (now (a .out)) (k .send-lent .last .1 .1 .1 .0) tt step)
-    (ap₂ (λ (x : ℕ) (l : List ℕ). sendStep (u .steps) x l (length (now (a .out)))) (k .before .before .update .ensures) (take-all 4096 (now (a .chunk)) (s .pre .0)))
+    (ap₂ (λ (x : ℕ) (l : List ℕ). sendStep (u .steps) x l (length (now (a .out)))) (k .before .before .crc-over .ensures) (take-all 4096 (now (a .chunk)) (s .pre .0)))
     (k .send-lent .ensures)
 
 returns : tie.Need-returns
