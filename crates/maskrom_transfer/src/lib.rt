@@ -4,7 +4,7 @@ ghost use mathlib.Core.List.{[], _∷_, _++_};
 ghost use Prim.Native.Nat.{_+_, _≤_, min};
 ghost use lib.ListN.{length, take};
 ghost use Rattle.promise.specs.Told.{number};
-ghost use Rattle.maskrom_transfer.specs.Moves.{checkBytes, writing, movesAt};
+ghost use Rattle.maskrom_transfer.specs.Moves.{blockSize, checkBytes, writing, movesAt};
 ghost use Rattle.maskrom_transfer.specs.Code.{PutMeets, SendMeets};
 ghost use Rattle.promise.specs.Does.{Meets};
 ghost use Rattle.maskrom_transfer.specs.Sending.{sentTold, sendStep};
@@ -141,7 +141,7 @@ fn send_at(steps: MaskRomSteps, crc: u16, bytes: &[u8], out: &mut [u8]) -> Moved
 // One step of an image of which no more will come: the bytes, as far as one transfer can hold them, are what is left of it, and the check covers
 // them. They are copied once, straight into the output, and the transfer is put together there.
 pub fn send_lent(steps: MaskRomSteps, crc: u16, bytes: &[u8], out: &mut [u8]) -> Sent
-    ensures { λ r. ⌜ Meets (sentTold r) tt (now (out .entry)) (now (out .exit)) tt (sendStep steps crc (take 4096 (now (bytes .entry))) (length (now (out .entry)))) ⌝ }
+    ensures { λ r. ⌜ Meets (sentTold r) tt (now (out .entry)) (now (out .exit)) tt (sendStep steps crc (take blockSize (now (bytes .entry))) (length (now (out .entry)))) ⌝ }
 {
     if out.len() < BLOCK {
         return Sent::OutputTooShort;
