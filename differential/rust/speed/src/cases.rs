@@ -4,7 +4,10 @@ use std::{cell::RefCell, hint::black_box, rc::Rc};
 
 use rockusb_mock::MockDevice;
 
-use crate::{original, proved};
+use crate::{
+    original,
+    proved::{self, AREA, NOW},
+};
 
 /// How long the image is, and how many sectors the flash has.
 #[derive(Clone, Copy)]
@@ -18,7 +21,6 @@ pub const LARGE: Scale = Scale { image: 64 << 20, sectors: 65_536 };
 /// For counting instructions of single calls.
 pub const SMALL: Scale = Scale { image: 4096, sectors: 8 };
 
-const AREA: u16 = 0x471;
 const BLOCK: usize = 4096;
 
 unsafe extern "C" {
@@ -104,10 +106,9 @@ fn check(image: &Rc<Vec<u8>>, length: usize, update: Update, form: &str) -> Case
 fn upload(image: &Rc<Vec<u8>>, size: Option<usize>) -> Case {
     let (a, b) = (image.clone(), image.clone());
     let length = image.len();
-    let most = u32::MAX;
     let whole = move |image: &[u8], out: &mut [u8]| match size {
-        None => proved::upload_whole(AREA, image, out, most),
-        Some(size) => proved::upload_parts(AREA, size, image, out, most.into()),
+        None => NOW.upload_whole(image, out),
+        Some(size) => NOW.upload_parts(size, image, out, u64::MAX),
     };
     let mut out = vec![0; BLOCK];
     assert_eq!(whole(image, &mut out), 0);
@@ -252,10 +253,10 @@ pub fn all(scale: Scale) -> Vec<Case> {
     let image = Rc::new(noise(scale.image));
     let flash = noise(scale.sectors * 512);
     let bench = Rc::new(RefCell::new(Bench { mock: original::device(flash.clone()), flash }));
-    let mut cases: Vec<Case> =
-        [scale.image, 1, 8, 64, 512].map(|n| check(&image, n, proved::update, "")).into();
-    cases
-        .extend([scale.image, 1, 8, 64].map(|n| check(&image, n, proved::update_by_table, ", by the table")));
+    let update: Update = |crc, bytes| NOW.update(crc, bytes);
+    let by_table: Update = |crc, bytes| NOW.update_by_table(crc, bytes);
+    let mut cases: Vec<Case> = [scale.image, 1, 8, 64, 512].map(|n| check(&image, n, update, "")).into();
+    cases.extend([scale.image, 1, 8, 64].map(|n| check(&image, n, by_table, ", by the table")));
     cases.push(upload(&image, None));
     cases.extend(PARTS.map(|n| upload(&image, Some(n))));
     cases.extend([command_write(), command_read()]);

@@ -37,15 +37,21 @@ uint16_t loops_by_eight(uint16_t crc, const uint8_t *bytes, size_t length) {
 
 static uint8_t stack[1 << 18];
 static ucontext_t here, there;
+static void (*called)(const void *);
+static const void *given;
+
+static void begin(void) { called(given); }
 
 // Bytes of a fresh stack that a call changes, from its top to the lowest.
-size_t loops_stack(void (*call)(void)) {
+size_t loops_stack(void (*call)(const void *), const void *with) {
     memset(stack, 0xA5, sizeof stack);
+    called = call;
+    given = with;
     if (getcontext(&there)) return 0;
     there.uc_stack.ss_sp = stack;
     there.uc_stack.ss_size = sizeof stack;
     there.uc_link = &here;
-    makecontext(&there, call, 0);
+    makecontext(&there, begin, 0);
     if (swapcontext(&here, &there)) return 0;
     size_t lowest = 0;
     while (lowest < sizeof stack && stack[lowest] == 0xA5) lowest++;

@@ -11,7 +11,7 @@ mod stack;
 use std::{
     env, io,
     path::Path,
-    process::{Command, ExitCode},
+    process::{Command, ExitCode, Stdio},
 };
 
 use cases::{Case, LARGE, SMALL, Side};
@@ -79,6 +79,18 @@ fn calls(group: &str, name: &str, side: &str, times: usize) {
     }
 }
 
+/// Rows of a table, by the program that leads copies through a counter. `between` stands between copies and clears.
+fn copies(between: &str) -> io::Result<String> {
+    let out = Command::new(env::current_exe()?.with_file_name("copies"))
+        .arg(between)
+        .stderr(Stdio::inherit())
+        .output()?;
+    if !out.status.success() {
+        return Err(io::Error::other(format!("copies: {}", out.status)));
+    }
+    String::from_utf8(out.stdout).map_err(io::Error::other)
+}
+
 fn measure(docs: &str) -> io::Result<()> {
     let mut rows = Vec::new();
     for case in cases::all(LARGE) {
@@ -87,9 +99,7 @@ fn measure(docs: &str) -> io::Result<()> {
     }
     rows.push(deck::measured(TURNS)?);
     println!("{}", rows[rows.len() - 1].line());
-    let copies = Command::new(env::current_exe()?.with_file_name("copies")).output()?;
-    let copies = String::from_utf8_lossy(&copies.stdout).into_owned();
-    page::write(Path::new(docs), &rows, &copies, &stack::table())
+    page::write(Path::new(docs), &rows, &copies(" | ")?, &stack::rows())
 }
 
 fn main() -> ExitCode {

@@ -3,26 +3,10 @@
 
 #![allow(dead_code)]
 
+/// Of every upload.
+pub const AREA: u16 = 0x471;
+
 unsafe extern "C" {
-    fn otterarch_crc_update(crc: u32, bytes: *const u8, length: usize) -> u16;
-    fn otterarch_crc_update_by_table(crc: u32, bytes: *const u8, length: usize) -> u16;
-    fn otterarch_upload_whole(
-        area: u32,
-        image: *const u8,
-        length: usize,
-        out: *mut u8,
-        room: usize,
-        budget: u32,
-    ) -> u8;
-    fn otterarch_upload_parts(
-        area: u32,
-        size: usize,
-        image: *const u8,
-        length: usize,
-        out: *mut u8,
-        room: usize,
-        budget: u64,
-    ) -> u8;
     fn otterarch_command_write(tag: u32, first: u32, sectors: u32, out: *mut u8, room: usize) -> u8;
     fn otterarch_command_read(bytes: *const u8, length: usize) -> u64;
     fn otterarch_read_sectors(
@@ -43,22 +27,57 @@ unsafe extern "C" {
     ) -> u8;
 }
 
-pub fn update(crc: u16, bytes: &[u8]) -> u16 {
-    unsafe { otterarch_crc_update(crc.into(), bytes.as_ptr(), bytes.len()) }
+/// Functions of an archive, each with its C name and signature said once.
+macro_rules! archive {
+    ($($call:ident, $now:ident: ($($name:ident: $of:ty),*) -> $gives:ty;)*) => {
+        unsafe extern "C" {
+            $(fn $now($($name: $of),*) -> $gives;)*
+        }
+        #[repr(C)]
+        pub struct Proved {
+            $($call: unsafe extern "C" fn($($of),*) -> $gives,)*
+        }
+        pub const NOW: Proved = Proved { $($call: $now,)* };
+    };
 }
 
-pub fn update_by_table(crc: u16, bytes: &[u8]) -> u16 {
-    unsafe { otterarch_crc_update_by_table(crc.into(), bytes.as_ptr(), bytes.len()) }
+archive! {
+    update, otterarch_crc_update: (crc: u32, bytes: *const u8, length: usize) -> u16;
+    update_by_table, otterarch_crc_update_by_table: (crc: u32, bytes: *const u8, length: usize) -> u16;
+    upload_whole, otterarch_upload_whole:
+        (area: u32, image: *const u8, length: usize, out: *mut u8, room: usize, budget: u32) -> u8;
+    upload_parts, otterarch_upload_parts:
+        (area: u32, size: usize, image: *const u8, length: usize, out: *mut u8, room: usize, budget: u64) -> u8;
 }
 
-pub fn upload_whole(area: u16, image: &[u8], out: &mut [u8], budget: u32) -> u8 {
-    let (room, out) = (out.len(), out.as_mut_ptr());
-    unsafe { otterarch_upload_whole(area.into(), image.as_ptr(), image.len(), out, room, budget) }
+/// What is linked.
+pub const ARCHIVES: &[Proved] = &[NOW];
+
+/// A row of a table, with a figure of each archive.
+pub fn row(name: &str, figures: impl Iterator<Item = String>) -> String {
+    let figures: Vec<String> = figures.collect();
+    format!("| {name} | {} |\n", figures.join(" | "))
 }
 
-pub fn upload_parts(area: u16, size: usize, image: &[u8], out: &mut [u8], budget: u64) -> u8 {
-    let (room, out, n) = (out.len(), out.as_mut_ptr(), image.len());
-    unsafe { otterarch_upload_parts(area.into(), size, image.as_ptr(), n, out, room, budget) }
+impl Proved {
+    pub fn update(&self, crc: u16, bytes: &[u8]) -> u16 {
+        unsafe { (self.update)(crc.into(), bytes.as_ptr(), bytes.len()) }
+    }
+
+    pub fn update_by_table(&self, crc: u16, bytes: &[u8]) -> u16 {
+        unsafe { (self.update_by_table)(crc.into(), bytes.as_ptr(), bytes.len()) }
+    }
+
+    /// To the finish, which is 0, or to a refusal.
+    pub fn upload_whole(&self, image: &[u8], out: &mut [u8]) -> u8 {
+        let (room, out) = (out.len(), out.as_mut_ptr());
+        unsafe { (self.upload_whole)(AREA.into(), image.as_ptr(), image.len(), out, room, u32::MAX) }
+    }
+
+    pub fn upload_parts(&self, size: usize, image: &[u8], out: &mut [u8], budget: u64) -> u8 {
+        let (room, out, n) = (out.len(), out.as_mut_ptr(), image.len());
+        unsafe { (self.upload_parts)(AREA.into(), size, image.as_ptr(), n, out, room, budget) }
+    }
 }
 
 pub fn command_write(tag: u32, first: u32, sectors: u16, out: &mut [u8]) -> u8 {

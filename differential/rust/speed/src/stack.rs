@@ -1,11 +1,13 @@
-//! How much stack the check and a step of an upload take.
+//! How much stack the check and uploads take.
 
 use std::hint::black_box;
 
-use crate::proved;
+use crate::proved::{ARCHIVES, Proved, row};
+
+type Call = extern "C" fn(&Proved);
 
 unsafe extern "C" {
-    fn loops_stack(call: extern "C" fn()) -> usize;
+    fn loops_stack(call: Call, with: &Proved) -> usize;
 }
 
 static IMAGE: [u8; 8192] = [7; 8192];
@@ -16,38 +18,45 @@ fn out() -> &'static mut [u8] {
     unsafe { &mut OUT }
 }
 
-extern "C" fn nothing() {}
+extern "C" fn nothing(_: &Proved) {}
 
-extern "C" fn update() {
-    black_box(proved::update(0xFFFF, &IMAGE));
+extern "C" fn update(proved: &Proved) {
+    black_box(proved.update(0xFFFF, &IMAGE));
 }
 
-extern "C" fn update_by_table() {
-    black_box(proved::update_by_table(0xFFFF, &IMAGE));
+extern "C" fn update_by_table(proved: &Proved) {
+    black_box(proved.update_by_table(0xFFFF, &IMAGE));
 }
 
-extern "C" fn whole() {
-    assert_eq!(proved::upload_whole(0x471, &IMAGE, out(), 1), 28);
+extern "C" fn whole<const LENGTH: usize, const ROOM: usize, const TOLD: u8>(proved: &Proved) {
+    assert_eq!(proved.upload_whole(&IMAGE[..LENGTH], &mut out()[..ROOM]), TOLD);
 }
 
-extern "C" fn part() {
-    assert_eq!(proved::upload_parts(0x471, 4096, &IMAGE, out(), 1), 28);
+extern "C" fn part(proved: &Proved) {
+    assert_eq!(proved.upload_parts(4096, &IMAGE, out(), 1), 28);
 }
 
-const CALLS: [(&str, extern "C" fn()); 4] = [
+const CALLS: [(&str, Call); 10] = [
     ("the check, eight bytes at a time as one number (`crc::update`)", update),
     ("the check, byte by byte by a table (`crc::update_by_table`)", update_by_table),
-    ("a step of a whole upload (`WholeUpload::step`)", whole),
+    ("a whole upload of 8,192 bytes: full blocks, then the check alone", whole::<8192, 4096, 0>),
+    ("a whole upload of 4,095 bytes: a transfer with the pad, then the check", whole::<4095, 4096, 0>),
+    ("a whole upload of 4,094 bytes: a transfer with the check, then the last zero", whole::<4094, 4096, 0>),
+    ("a whole upload of 4,093 bytes: a transfer with the check", whole::<4093, 4096, 0>),
+    ("a whole upload of 100 bytes: a transfer with the check", whole::<100, 4096, 0>),
+    ("a whole upload of 0 bytes: the check alone", whole::<0, 4096, 0>),
+    ("a whole upload into an output of 4,095 bytes: refused (20)", whole::<8192, 4095, 20>),
     ("a part of 4,096 bytes (`MaskRomOperation::part`)", part),
 ];
 
-/// A table: bytes beyond what calling nothing takes.
-pub fn table() -> String {
-    let of = |call: extern "C" fn()| unsafe { loops_stack(call) };
-    let mut text = String::from("| call | bytes |\n|---|---|\n");
-    for (name, call) in CALLS {
-        call();
-        text += &format!("| {name} | {} |\n", of(call) - of(nothing));
-    }
-    text
+/// Bytes beyond what calling nothing takes.
+fn taken(call: Call, proved: &Proved) -> usize {
+    call(proved);
+    unsafe { loops_stack(call, proved) - loops_stack(nothing, proved) }
+}
+
+/// Rows of a table.
+pub fn rows() -> String {
+    let line = |(name, call)| row(name, ARCHIVES.iter().map(|proved| taken(call, proved).to_string()));
+    CALLS.map(line).concat()
 }
