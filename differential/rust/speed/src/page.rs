@@ -62,6 +62,15 @@ fn table(rows: &[Row]) -> String {
     text
 }
 
+/// At what share of the speed of the check alone the whole upload of the same image runs.
+fn share(rows: &[Row]) -> String {
+    let seconds = |group, name| {
+        let row = rows.iter().find(|row| row.group == group && row.name == name);
+        row.expect("the check and the whole upload have a row").proved
+    };
+    format!("{:.2}", seconds("check", "64 MiB") / seconds("upload of 64 MiB", "whole"))
+}
+
 const LEFT: f64 = 300.0;
 const MIDDLE: f64 = 560.0;
 const RIGHT: f64 = 860.0;
@@ -116,6 +125,7 @@ pub fn write(docs: &Path, rows: &[Row], copies: &str, stack: &str) -> io::Result
         .replace("{library}", &library)
         .replace("{machine}", &machine())
         .replace("{table}", table(rows).trim_end())
+        .replace("{share}", &share(rows))
         .replace("{copies}", copies.trim_end())
         .replace("{stack}", stack.trim_end());
     fs::write(docs.join("speed.md"), text)?;
