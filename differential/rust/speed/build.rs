@@ -1,4 +1,5 @@
-//! Links the archive of the proved functions, and the C loops at -O2.
+//! Links the archive of the proved functions, the C loops at -O2 and, if one is named, the archive of an earlier
+//! revision.
 
 use std::{env, path::Path, process::Command};
 
@@ -7,11 +8,22 @@ fn must(command: &mut Command) {
     assert!(status.success(), "{command:?}: {status}");
 }
 
+fn link(folder: &str, name: &str) {
+    println!("cargo:rustc-link-search=native={folder}");
+    println!("cargo:rustc-link-lib=static={name}");
+}
+
+/// An archive that is made outside.
+fn link_made(folder: &str, name: &str) {
+    println!("cargo:rerun-if-changed={folder}/lib{name}.a");
+    link(folder, name);
+}
+
 fn main() {
     println!("cargo:rerun-if-changed=src/loops.c");
     println!("cargo:rerun-if-env-changed=PROVED");
-    let proved = env::var("PROVED").expect("PROVED: the folder of libproved.a");
-    println!("cargo:rerun-if-changed={proved}/libproved.a");
+    println!("cargo:rerun-if-env-changed=PROVED_EARLIER");
+    println!("cargo:rustc-check-cfg=cfg(earlier)");
     let out = env::var("OUT_DIR").expect("cargo sets OUT_DIR");
     let object = Path::new(&out).join("loops.o");
     must(
@@ -20,10 +32,12 @@ fn main() {
             .arg(&object),
     );
     must(Command::new("ar").arg("crs").arg(Path::new(&out).join("libloops.a")).arg(&object));
-    println!("cargo:rustc-link-search=native={out}");
-    println!("cargo:rustc-link-search=native={proved}");
-    println!("cargo:rustc-link-lib=static=loops");
-    println!("cargo:rustc-link-lib=static=proved");
+    link(&out, "loops");
+    link_made(&env::var("PROVED").expect("PROVED: the folder of libproved.a"), "proved");
+    if let Ok(earlier) = env::var("PROVED_EARLIER") {
+        println!("cargo:rustc-cfg=earlier");
+        link_made(&earlier, "earlier");
+    }
     for function in ["memcpy", "memmove", "memset"] {
         println!("cargo:rustc-link-arg-bin=copies=-Wl,--wrap={function}");
     }

@@ -48,7 +48,7 @@ pub struct Case {
 }
 
 /// Bytes that no compiler foresees.
-fn noise(length: usize) -> Vec<u8> {
+pub fn noise(length: usize) -> Vec<u8> {
     let mut x: u32 = 1;
     let mut next = || {
         x = x.wrapping_mul(1_664_525).wrapping_add(1_013_904_223);

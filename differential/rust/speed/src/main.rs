@@ -1,5 +1,7 @@
 //! The proved functions beside the unchanged Rust, turn by turn in one process; see README.md.
 
+#[cfg(earlier)]
+mod beside;
 mod cases;
 mod clock;
 mod deck;
@@ -14,7 +16,7 @@ use std::{
     process::{Command, ExitCode, Stdio},
 };
 
-use cases::{Case, LARGE, SMALL, Side};
+use cases::{Case, LARGE, SMALL};
 use page::{Amount, Row};
 
 /// How often each side has its turn; its best counts.
@@ -23,7 +25,7 @@ const TURNS: usize = 15;
 /// How often a call is made to count its instructions.
 const COUNTED: u64 = 200;
 
-fn timed(side: &mut Side, times: usize, turn: usize) -> f64 {
+fn timed(side: &mut dyn FnMut(), times: usize, turn: usize) -> f64 {
     let start = clock::thread();
     clock::at_depth(turn, &mut || (0..times).for_each(|_| side()));
     (clock::thread() - start) / times as f64
@@ -32,10 +34,10 @@ fn timed(side: &mut Side, times: usize, turn: usize) -> f64 {
 fn measured(mut case: Case) -> Row {
     let (mut proved, mut original, mut plain) = (f64::INFINITY, f64::INFINITY, [f64::INFINITY; 2]);
     for turn in 0..TURNS {
-        proved = proved.min(timed(&mut case.proved, case.times, turn));
-        original = original.min(timed(&mut case.original, case.times, turn));
+        proved = proved.min(timed(case.proved.as_mut(), case.times, turn));
+        original = original.min(timed(case.original.as_mut(), case.times, turn));
         for (best, side) in plain.iter_mut().zip(case.plain.iter_mut().flatten()) {
-            *best = best.min(timed(side, case.times, turn));
+            *best = best.min(timed(side.as_mut(), case.times, turn));
         }
     }
     Row {
@@ -102,23 +104,29 @@ fn measure(docs: &str) -> io::Result<()> {
     page::write(Path::new(docs), &rows, &copies(" | ")?, &stack::rows())
 }
 
+fn done(result: io::Result<()>) -> ExitCode {
+    match result {
+        Ok(()) => ExitCode::SUCCESS,
+        Err(e) => {
+            eprintln!("speed: {e}");
+            ExitCode::FAILURE
+        }
+    }
+}
+
 fn main() -> ExitCode {
     let args: Vec<String> = env::args().skip(1).collect();
     let args: Vec<&str> = args.iter().map(String::as_str).collect();
     match args[..] {
-        ["measure", docs] => match measure(docs) {
-            Ok(()) => ExitCode::SUCCESS,
-            Err(e) => {
-                eprintln!("speed: {e}");
-                ExitCode::FAILURE
-            }
-        },
+        ["measure", docs] => done(measure(docs)),
+        #[cfg(earlier)]
+        ["beside"] => done(beside::print()),
         ["calls", group, name, side, times] => {
             calls(group, name, side, times.parse().expect("a number"));
             ExitCode::SUCCESS
         }
         _ => {
-            eprintln!("usage: speed measure DOCS");
+            eprintln!("usage: speed measure DOCS, or speed beside where an earlier revision is linked");
             ExitCode::from(2)
         }
     }

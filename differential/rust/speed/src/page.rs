@@ -22,13 +22,19 @@ pub struct Row {
     pub instructions: Option<(u64, u64)>,
 }
 
-impl Row {
-    fn figure(&self, seconds: f64) -> String {
-        match self.amount {
+impl Amount {
+    pub fn figure(self, seconds: f64) -> String {
+        match self {
             Amount::Bytes(n) => format!("{:.0} MB/s", n as f64 / seconds / 1e6),
             Amount::Blocks(n) => format!("{:.0} a second", n as f64 / seconds),
             Amount::Calls => format!("{:.1} ns", seconds * 1e9),
         }
+    }
+}
+
+impl Row {
+    fn figure(&self, seconds: f64) -> String {
+        self.amount.figure(seconds)
     }
 
     /// How many times as fast as the Rust.

@@ -27,31 +27,43 @@ unsafe extern "C" {
     ) -> u8;
 }
 
-/// Functions of an archive, each with its C name and signature said once.
-macro_rules! archive {
-    ($($call:ident, $now:ident: ($($name:ident: $of:ty),*) -> $gives:ty;)*) => {
+/// Functions of an archive, each with its C name, the one that it has in an earlier archive, and its signature.
+macro_rules! archives {
+    ($($call:ident, $now:ident, $earlier:ident: ($($name:ident: $of:ty),*) -> $gives:ty;)*) => {
         unsafe extern "C" {
             $(fn $now($($name: $of),*) -> $gives;)*
+        }
+        #[cfg(earlier)]
+        unsafe extern "C" {
+            $(fn $earlier($($name: $of),*) -> $gives;)*
         }
         #[repr(C)]
         pub struct Proved {
             $($call: unsafe extern "C" fn($($of),*) -> $gives,)*
         }
         pub const NOW: Proved = Proved { $($call: $now,)* };
+        #[cfg(earlier)]
+        pub const EARLIER: Proved = Proved { $($call: $earlier,)* };
     };
 }
 
-archive! {
-    update, otterarch_crc_update: (crc: u32, bytes: *const u8, length: usize) -> u16;
-    update_by_table, otterarch_crc_update_by_table: (crc: u32, bytes: *const u8, length: usize) -> u16;
-    upload_whole, otterarch_upload_whole:
+archives! {
+    update, otterarch_crc_update, earlier_otterarch_crc_update:
+        (crc: u32, bytes: *const u8, length: usize) -> u16;
+    update_by_table, otterarch_crc_update_by_table, earlier_otterarch_crc_update_by_table:
+        (crc: u32, bytes: *const u8, length: usize) -> u16;
+    upload_whole, otterarch_upload_whole, earlier_otterarch_upload_whole:
         (area: u32, image: *const u8, length: usize, out: *mut u8, room: usize, budget: u32) -> u8;
-    upload_parts, otterarch_upload_parts:
+    upload_parts, otterarch_upload_parts, earlier_otterarch_upload_parts:
         (area: u32, size: usize, image: *const u8, length: usize, out: *mut u8, room: usize, budget: u64) -> u8;
 }
 
-/// What is linked.
-pub const ARCHIVES: &[Proved] = &[NOW];
+/// What is linked, an earlier revision first.
+pub const ARCHIVES: &[Proved] = &[
+    #[cfg(earlier)]
+    EARLIER,
+    NOW,
+];
 
 /// A row of a table, with a figure of each archive.
 pub fn row(name: &str, figures: impl Iterator<Item = String>) -> String {
