@@ -1,5 +1,5 @@
--- Programs that `step` rules out: the bytes of a full transfer, and those behind a transfer, are not copied as they should be, or the check does
--- not go over them.
+-- Programs that the contract of `step` rules out: bytes of a full transfer that are not the image's own, bytes behind a transfer that are touched,
+-- a check that does not go over the bytes.
 use Prim.Native.Nat.{ℕ, zero, suc, _≤_}
 use mathlib.Core.Path.{_≡_, refl, ap, sym, _∙_}
 use mathlib.Core.List.{List, [], _∷_, _++_}
@@ -7,18 +7,20 @@ use native.Mathlib.Omega.{arith}
 use lib.ListN.{length, take, drop, getD, replicate, length-replicate}
 use lib.Seq.{length-take-le, take-all}
 use Rattle.crc.specs.Check.{start, bitStep, bitsStep, byteStep, crcOver}
-use Rattle.promise.specs.Told.{Told, given}
-use Rattle.promise.specs.Bytes.{front}
-use Rattle.promise.specs.Does.{Does, does, sent, after}
+use Rattle.promise.specs.Told.{Told, given, andThen}
+use Rattle.promise.specs.Rules.{orRefuse}
+use Rattle.promise.specs.Bytes.{front, lowFirst, highFirst}
+use Rattle.promise.specs.Does.{Does, does, Meets, sent, after}
 use Rattle.maskrom_transfer.specs.declared.MaskRomSteps.the-variants.{Writing}
-use Rattle.maskrom_transfer.specs.Moves.{Moves, movesAt}
+use Rattle.maskrom_transfer.specs.Moves.{Moves, writing, movesAt}
+use Rattle.maskrom_transfer.specs.Sending.{sendStep}
 use Rattle.maskrom_transfer.proofs.Cases.{writing-block}
 use Rattle.maskrom.specs.declared.Control.{Control}
 use Rattle.maskrom.specs.declared.WholeUpload.{WholeUpload}
 use Rattle.maskrom.specs.declared.WholeStepped.{WholeStepped}
 use Rattle.maskrom.specs.Answers.{Asks, writes, stepTold}
 use Rattle.maskrom.specs.PartWise.{asks}
-use Rattle.maskrom.specs.Whole.{freshWhole, most, sentOn, wholeStep}
+use Rattle.maskrom.specs.Whole.{freshWhole, most, sentOn, sendsOn, wholeStep}
 use Rattle.maskrom.specs.Calls.{StepMeets}
 use Rattle.maskrom.proofs.Cases.{whole-sends, sends-acts}
 use Rattle.maskrom.proofs.Transfers.{step-untouched}
@@ -88,3 +90,12 @@ check-not-carried r area before now room meets kept =
     let differ : _≡_ {A = ℕ} 0xFFFF 0 =
     sym kept ∙ crc-after r area image before now room long meets ∙ ap (crcOver start) whole ∙ over-zeros 4094 in
     omega arith
+
+-- `step`: the check not carried over the bytes of a last transfer, where it is then sent as it started
+pub last-not-checked : (r : WholeStepped) (area : ℕ) (before now : List ℕ)
+    → let image : List ℕ = 0xFF ∷ 0xFF ∷ [] in
+    Meets (stepTold (r .step)) (r .next) before now (freshWhole area 2) (wholeStep (freshWhole area 2) image 4096)
+    → take 4 now ≡ 0xFF ∷ 0xFF ∷ 0xFF ∷ 0xFF ∷ [] → ⊥
+unfolding wholeStep sendsOn andThen sendStep orRefuse movesAt writing highFirst lowFirst most crcOver byteStep bitsStep bitStep sent
+last-not-checked r area before now meets started =
+    let differ : _≡_ {A = ℕ} 0xFF 0 = ap (λ (l : List ℕ). getD l 2 0) (sym started ∙ ap (take 4) (meets .leaves)) in omega arith

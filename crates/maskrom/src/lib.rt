@@ -2,7 +2,7 @@
 // every step (`write_area`, `WholeUpload`).
 ghost use mathlib.Core.Path.{_≡_};
 ghost use Prim.Native.Nat.{_+_, _≤_, min};
-ghost use lib.ListN.{length, take};
+ghost use lib.ListN.{length};
 ghost use Rattle.crc.specs.Check.{crcOver};
 ghost use Rattle.promise.specs.Told.{given, number};
 ghost use Rattle.promise.specs.Does.{Meets};
@@ -21,6 +21,7 @@ const LONGEST: usize = 4_294_967_295;
 
 const CRC_START: u16 = 0xFFFF;
 
+// As many as `SHORT` of crc.
 const FEW: usize = 16;
 
 // A control write with the first `size` bytes of the output.
@@ -309,8 +310,8 @@ fn chunk_size(steps: MaskRomSteps, left: usize) -> usize
     }
 }
 
-// The check over the chunk. One of few bytes goes by the table at once: `crc::update` would do no other with them, but it keeps room on the stack for
-// a table of its own meanwhile.
+// The check over the chunk. One of few bytes goes by the table at once: `crc::update` would do no other with them, but it holds room on the stack for
+// the table of its other way besides.
 fn crc_over(crc: u16, chunk: &[u8]) -> u16
     ensures { λ r. ⌜ r ≡ crcOver crc (now (chunk .entry)) ⌝ }
 {
