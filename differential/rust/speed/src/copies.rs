@@ -1,106 +1,117 @@
-//! How often blocks of 4,096 bytes are copied or cleared: the calls of memcpy, memmove and memset, counted where the
-//! linker leads them through here.
+//! How often blocks of 4,096 bytes are copied or cleared. Blocks written are counted from every store of a run of this
+//! program (`sweeps`), clears among them where the linker leads memset through here; the others are copies.
 
 mod proved;
+mod sweeps;
 
 use std::{
-    env,
+    env, io,
+    process::Command,
     sync::atomic::{AtomicU64, Ordering::Relaxed},
 };
 
 use proved::{ARCHIVES, Proved, row};
 
-/// The compiler cuts a block of 4,096 bytes into one of 4,093 and the rest.
+/// As `sweeps` has it: a block of 4,096 bytes, which may be cut into one of 4,093 and the rest.
 const LARGE: usize = 4_000;
 
-static COPIES: AtomicU64 = AtomicU64::new(0);
 static CLEARS: AtomicU64 = AtomicU64::new(0);
 
 unsafe extern "C" {
-    fn __real_memcpy(to: *mut u8, from: *const u8, n: usize) -> *mut u8;
-    fn __real_memmove(to: *mut u8, from: *const u8, n: usize) -> *mut u8;
     fn __real_memset(to: *mut u8, byte: i32, n: usize) -> *mut u8;
-}
-
-fn count(of: &AtomicU64, n: usize) {
-    if n >= LARGE {
-        of.fetch_add(1, Relaxed);
-    }
-}
-
-#[unsafe(no_mangle)]
-unsafe extern "C" fn __wrap_memcpy(to: *mut u8, from: *const u8, n: usize) -> *mut u8 {
-    count(&COPIES, n);
-    unsafe { __real_memcpy(to, from, n) }
-}
-
-#[unsafe(no_mangle)]
-unsafe extern "C" fn __wrap_memmove(to: *mut u8, from: *const u8, n: usize) -> *mut u8 {
-    count(&COPIES, n);
-    unsafe { __real_memmove(to, from, n) }
 }
 
 #[unsafe(no_mangle)]
 unsafe extern "C" fn __wrap_memset(to: *mut u8, byte: i32, n: usize) -> *mut u8 {
-    count(&CLEARS, n);
+    if n >= LARGE {
+        CLEARS.fetch_add(1, Relaxed);
+    }
     unsafe { __real_memset(to, byte, n) }
 }
 
-/// Copies and clears.
-type Counts = [u64; 2];
+static IMAGE: [u8; 4096 * 9] = [1; 4096 * 9];
+static mut OUT: [u8; 4096] = [0; 4096];
 
-/// Those of an upload to its finish.
-fn of(upload: impl FnOnce() -> u8) -> Counts {
-    let counts = || [&COPIES, &CLEARS].map(|n| n.load(Relaxed));
-    let before = counts();
-    assert_eq!(upload(), 0);
-    let after = counts();
-    [after[0] - before[0], after[1] - before[1]]
+#[allow(static_mut_refs)]
+fn out() -> &'static mut [u8] {
+    unsafe { &mut OUT }
 }
 
-/// Those that one block of 4,096 bytes more makes.
-fn of_a_block(upload: impl Fn(&[u8], &mut [u8]) -> u8) -> Counts {
-    let image = vec![1; 4096 * 9];
-    let mut out = vec![0; 4096];
-    let [few, many] = [8, 9].map(|blocks| of(|| upload(&image[..4096 * blocks], &mut out)));
-    [many[0] - few[0], many[1] - few[1]]
+fn nothing(_: &Proved) {}
+
+fn whole<const LENGTH: usize>(proved: &Proved) {
+    assert_eq!(proved.upload_whole(&IMAGE[..LENGTH], out()), 0);
 }
 
-fn of_an_upload(proved: &Proved, length: usize) -> Counts {
-    let image = vec![1; length];
-    let mut out = vec![0; 4096];
-    of(|| proved.upload_whole(&image, &mut out))
+fn parts<const SIZE: usize, const LENGTH: usize>(proved: &Proved) {
+    assert_eq!(proved.upload_parts(SIZE, &IMAGE[..LENGTH], out(), u64::MAX), 0);
 }
 
-fn of_a_part(proved: &Proved, size: usize) -> Counts {
-    of_a_block(|image, out| proved.upload_parts(size, image, out, u64::MAX))
-}
+type Call = fn(&Proved);
 
-const ROWS: [(&str, fn(&Proved) -> Counts); 6] = [
-    ("`WholeUpload::step` with a full block", |proved| {
-        of_a_block(|image, out| proved.upload_whole(image, out))
-    }),
-    ("`WholeUpload::step` to the finish of 4,093 bytes: a transfer with the check", |proved| {
-        of_an_upload(proved, 4093)
-    }),
+const EIGHT: usize = 4096 * 8;
+const NINE: usize = 4096 * 9;
+
+/// What is counted is what the first call does beyond the second.
+const ROWS: [(&str, Call, Call); 6] = [
+    ("`WholeUpload::step` with a full block", whole::<NINE>, whole::<EIGHT>),
+    ("`WholeUpload::step` to the finish of 4,093 bytes: a transfer with the check", whole::<4093>, nothing),
     (
         "`WholeUpload::step` to the finish of 4,094 bytes: a transfer with the check, then the last zero",
-        |proved| of_an_upload(proved, 4094),
+        whole::<4094>,
+        nothing,
     ),
-    ("`WholeUpload::step` to the finish of 4,095 bytes: a transfer with the pad, then the check", |proved| {
-        of_an_upload(proved, 4095)
-    }),
-    ("`MaskRomOperation::part` that fills its block from empty", |proved| of_a_part(proved, 4096)),
-    ("eight `MaskRomOperation::part` of 512 bytes, the last of which fills the block", |proved| {
-        of_a_part(proved, 512)
-    }),
+    (
+        "`WholeUpload::step` to the finish of 4,095 bytes: a transfer with the pad, then the check",
+        whole::<4095>,
+        nothing,
+    ),
+    ("`MaskRomOperation::part` that fills its block from empty", parts::<4096, NINE>, parts::<4096, EIGHT>),
+    (
+        "eight `MaskRomOperation::part` of 512 bytes, the last of which fills the block",
+        parts::<512, NINE>,
+        parts::<512, EIGHT>,
+    ),
 ];
 
-/// Rows of a table. The argument stands between copies and clears.
-fn main() {
-    let between = env::args().nth(1).expect("what stands between copies and clears");
-    for (name, counted) in ROWS {
-        let figures = ARCHIVES.iter().map(|proved| counted(proved).map(|n| n.to_string()).join(&between));
-        print!("{}", row(name, figures));
+fn clears(call: Call, proved: &Proved) -> u64 {
+    let before = CLEARS.load(Relaxed);
+    call(proved);
+    CLEARS.load(Relaxed) - before
+}
+
+/// Blocks that this program writes if it makes that call.
+fn written(place: [usize; 3]) -> io::Result<u64> {
+    let mut program = Command::new(env::current_exe()?);
+    Ok(sweeps::blocks(program.arg("make").args(place.map(|n| n.to_string())))? as u64)
+}
+
+/// Copies and clears of a row, of an archive.
+fn counted(at: usize, archive: usize) -> io::Result<[u64; 2]> {
+    let (_, more, less) = ROWS[at];
+    let cleared = clears(more, &ARCHIVES[archive]) - clears(less, &ARCHIVES[archive]);
+    let blocks = written([at, 0, archive])? - written([at, 1, archive])?;
+    Ok([blocks - cleared, cleared])
+}
+
+/// Rows of a table.
+fn rows(between: &str) -> io::Result<()> {
+    for (at, (name, ..)) in ROWS.iter().enumerate() {
+        let figures: io::Result<Vec<_>> = (0..ARCHIVES.len()).map(|archive| counted(at, archive)).collect();
+        print!("{}", row(name, figures?.iter().map(|counts| counts.map(|n| n.to_string()).join(between))));
+    }
+    Ok(())
+}
+
+fn main() -> io::Result<()> {
+    let args: Vec<String> = env::args().skip(1).collect();
+    let place = |n: usize| args[n].parse::<usize>().expect("a place");
+    match args[0].as_str() {
+        "rows" => rows(&args[1]),
+        _ => {
+            let (_, more, less) = ROWS[place(1)];
+            [more, less][place(2)](&ARCHIVES[place(3)]);
+            Ok(())
+        }
     }
 }

@@ -81,10 +81,10 @@ fn calls(group: &str, name: &str, side: &str, times: usize) {
     }
 }
 
-/// Rows of a table, by the program that leads copies through a counter. `between` stands between copies and clears.
+/// Rows of a table, by the program that counts copies. `between` stands between copies and clears.
 fn copies(between: &str) -> io::Result<String> {
     let out = Command::new(env::current_exe()?.with_file_name("copies"))
-        .arg(between)
+        .args(["rows", between])
         .stderr(Stdio::inherit())
         .output()?;
     if !out.status.success() {

@@ -20,8 +20,8 @@ fn out() -> &'static mut [u8] {
 
 extern "C" fn nothing(_: &Proved) {}
 
-extern "C" fn update(proved: &Proved) {
-    black_box(proved.update(0xFFFF, &IMAGE));
+extern "C" fn update<const LENGTH: usize>(proved: &Proved) {
+    black_box(proved.update(0xFFFF, &IMAGE[..LENGTH]));
 }
 
 extern "C" fn update_by_table(proved: &Proved) {
@@ -36,14 +36,16 @@ extern "C" fn part(proved: &Proved) {
     assert_eq!(proved.upload_parts(4096, &IMAGE, out(), 1), 28);
 }
 
-const CALLS: [(&str, Call); 10] = [
-    ("the check, eight bytes at a time as one number (`crc::update`)", update),
+const CALLS: [(&str, Call); 12] = [
+    ("the check, eight bytes at a time as one number (`crc::update`)", update::<8192>),
+    ("the check of 15 bytes (`crc::update`)", update::<15>),
     ("the check, byte by byte by a table (`crc::update_by_table`)", update_by_table),
     ("a whole upload of 8,192 bytes: full blocks, then the check alone", whole::<8192, 4096, 0>),
     ("a whole upload of 4,095 bytes: a transfer with the pad, then the check", whole::<4095, 4096, 0>),
     ("a whole upload of 4,094 bytes: a transfer with the check, then the last zero", whole::<4094, 4096, 0>),
     ("a whole upload of 4,093 bytes: a transfer with the check", whole::<4093, 4096, 0>),
     ("a whole upload of 100 bytes: a transfer with the check", whole::<100, 4096, 0>),
+    ("a whole upload of 15 bytes: a transfer with the check", whole::<15, 4096, 0>),
     ("a whole upload of 0 bytes: the check alone", whole::<0, 4096, 0>),
     ("a whole upload into an output of 4,095 bytes: refused (20)", whole::<8192, 4095, 20>),
     ("a part of 4,096 bytes (`MaskRomOperation::part`)", part),
