@@ -53,12 +53,10 @@ put-two n u v bs old new h fits =
       both .1 ∙ ap (λ (l : List ℕ). front l old) (append-assoc bs (u ∷ []) (v ∷ [])),
     )
 
--- bytes put at the front are the step's, where they are the step's bytes
-pub meets : (size crc crc′ : ℕ) (steps : MaskRomSteps) (bs bs′ old new : List ℕ) → PutMeets size bs old new → bs ≡ bs′
-    → crc ≡ crc′ → SendMeets (record { size = size; crc = crc; steps = steps }) old new (moves bs′ crc′ steps)
-meets size crc crc′ steps bs bs′ old new h e k =
-    subst (λ (l : List ℕ). SendMeets (record { size = size; crc = crc; steps = steps }) old new (moves l crc′ steps)) e
-    (record { size = h .0; crc = k; steps = refl; leaves = h .1 })
+-- bytes put at the front are the step's, with the register that covers them
+pub meets : (size crc crc′ : ℕ) (steps : MaskRomSteps) (bs old new : List ℕ) → PutMeets size bs old new → crc ≡ crc′
+    → SendMeets (record { size = size; crc = crc; steps = steps }) old new (moves bs crc′ steps)
+meets size crc crc′ steps bs old new put covers = record { size = put .0; crc = covers; steps = refl; leaves = put .1 }
 
 pub at-steps : (r : Moved) (old new : List ℕ) (crc : ℕ) (w : List ℕ) {x y : MaskRomSteps} → x ≡ y
     → SendMeets r old new (movesAt y crc w) → SendMeets r old new (movesAt x crc w)

@@ -138,8 +138,8 @@ fn send_at(steps: MaskRomSteps, crc: u16, bytes: &[u8], out: &mut [u8]) -> Moved
     }
 }
 
-// One step of an image: the first 4,096 of the bytes are the next of it, all that is left where they are fewer, and the check covers these and no
-// others. They are copied straight into the output, and the transfer is put together there.
+// One step of an image: the first 4,096 of the bytes are the next of it, all that is left where they are fewer, and the check covers the image to
+// their end. They are copied straight into the output, and the transfer is put together there.
 pub fn send_lent(steps: MaskRomSteps, crc: u16, bytes: &[u8], out: &mut [u8]) -> Sent
     ensures { λ r. ⌜ Meets (sentTold r) tt (now (out .entry)) (now (out .exit)) tt (sendStep steps crc (take blockSize (now (bytes .entry))) (length (now (out .entry)))) ⌝ }
 {

@@ -24,8 +24,8 @@ returns-2 c =
     let a = p .before .before .before .before .before .before .before .args in
     at-steps (record { size = p .with-check .result; crc = a .crc; steps = Done }) (now (a .out)) (p .with-check .last .1 .1 .0) (a .crc) (now (a .bytes))
     (p .before .before .before .enum-told2 .given .1)
-    (meets (p .with-check .result) (a .crc) (a .crc) Done (checkBytes (a .crc)) (checkBytes (a .crc)) (now (a .out)) (p .with-check .last .1 .1 .0)
-    (p .with-check .ensures) refl refl)
+    (meets (p .with-check .result) (a .crc) (a .crc) Done (checkBytes (a .crc)) (now (a .out)) (p .with-check .last .1 .1 .0)
+    (p .with-check .ensures) refl)
 
 returns-3 : tie.Need-returns-3
 unfolding movesAt
@@ -34,7 +34,7 @@ returns-3 c =
     let a = p .before .before .before .before .before .before .before .args in
     at-steps (record { size = p .with-zero .result; crc = a .crc; steps = Done }) (now (a .out)) (p .with-zero .last .1 .0) (a .crc) (now (a .bytes))
     (p .before .before .before .enum-told3 .given .1)
-    (meets (p .with-zero .result) (a .crc) (a .crc) Done (0 ∷ []) (0 ∷ []) (now (a .out)) (p .with-zero .last .1 .0) (p .with-zero .ensures) refl refl)
+    (meets (p .with-zero .result) (a .crc) (a .crc) Done (0 ∷ []) (now (a .out)) (p .with-zero .last .1 .0) (p .with-zero .ensures) refl)
 
 returns-4 : tie.Need-returns-4
 unfolding movesAt

@@ -21,7 +21,7 @@ returns c =
     let a = p .before .before .before .before .before .args in
     let w = now (a .bytes) in
     rw (writing-block (a .crc) w (p .before .before .if1 .taken))
-    (meets (p .put .result) (a .crc) (a .crc) Writing w w (now (a .out)) (p .put .last .1 .0) (p .put .ensures) refl refl)
+    (meets (p .put .result) (a .crc) (a .crc) Writing w (now (a .out)) (p .put .last .1 .0) (p .put .ensures) refl)
 
 returns-2 : tie.Need-returns-2
 returns-2 c =
@@ -29,8 +29,8 @@ returns-2 c =
     let a = p .before .before .before .before .before .before .args in
     let w = now (a .bytes) in
     rw (writing-pad (a .crc) w (p .before .before .if2 .taken))
-    (meets (p .with-zero .result) (c .update-by-table .result) (crcOver (a .crc) (0 ∷ [])) Check (w ++ (0 ∷ [])) (w ++ (0 ∷ [])) (now (a .out)) (p .with-zero .last .1 .0)
-    (p .with-zero .ensures) refl (c .update-by-table .ensures))
+    (meets (p .with-zero .result) (c .update-by-table .result) (crcOver (a .crc) (0 ∷ [])) Check (w ++ (0 ∷ [])) (now (a .out)) (p .with-zero .last .1 .0)
+    (p .with-zero .ensures) (c .update-by-table .ensures))
 
 -- the bytes with the check behind them, once they are put
 behind : (p : tie.After-with-check) (steps : MaskRomSteps)
@@ -40,7 +40,7 @@ behind : (p : tie.After-with-check) (steps : MaskRomSteps)
 behind p steps =
     let a = p .before .before .before .before .before .before .args in
     let bs = now (a .bytes) ++ checkBytes (a .crc) in
-    meets (p .with-check .result) (a .crc) (a .crc) steps bs bs (now (a .out)) (p .with-check .last .1 .1 .0) (p .with-check .ensures) refl refl
+    meets (p .with-check .result) (a .crc) (a .crc) steps bs (now (a .out)) (p .with-check .last .1 .1 .0) (p .with-check .ensures) refl
 
 returns-3 : tie.Need-returns-3
 returns-3 c =
