@@ -6,7 +6,7 @@ use crate::{
     TURNS,
     cases::{LARGE, noise},
     copies,
-    page::Amount,
+    page::{Amount, share},
     proved::{ARCHIVES, Proved, row},
     stack, timed,
 };
@@ -52,12 +52,13 @@ fn speeds() -> String {
         + &row("check of 64 MiB (`crc::update`)", best.iter().map(|b| amount.figure(b.check)))
         + &row(
             "share of the check's speed that the upload has",
-            best.iter().map(|b| format!("{:.2}", b.check / b.upload)),
+            best.iter().map(|b| share(b.check, b.upload)),
         )
 }
 
-pub fn print() -> io::Result<()> {
-    print!("| | earlier | now |\n|---|---|---|\n");
+/// The revisions are told as their trees tell them.
+pub fn print(earlier: &str, now: &str) -> io::Result<()> {
+    print!("| | earlier, {earlier} | now, {now} |\n|---|---|---|\n");
     print!("| **copies, clears** | | |\n{}", copies(", ")?);
     print!("| **bytes of stack** | | |\n{}", stack::rows());
     print!("| **speed, the best of {TURNS} turns** | | |\n{}", speeds());

@@ -5,15 +5,15 @@ mod proved;
 mod sweeps;
 
 use std::{
-    env, io,
-    process::Command,
+    env,
+    hint::black_box,
+    io,
+    process::{Command, ExitCode},
     sync::atomic::{AtomicU64, Ordering::Relaxed},
 };
 
 use proved::{ARCHIVES, Proved, row};
-
-/// As `sweeps` has it: a block of 4,096 bytes, which may be cut into one of 4,093 and the rest.
-const LARGE: usize = 4_000;
+use sweeps::LARGE;
 
 static CLEARS: AtomicU64 = AtomicU64::new(0);
 
@@ -49,11 +49,23 @@ fn parts<const SIZE: usize, const LENGTH: usize>(proved: &Proved) {
 
 type Call = fn(&Proved);
 
+/// Two copies, by memcpy and by a loop that is none, and a clear.
+fn known(_: &Proved) {
+    let image = black_box(&IMAGE[..4096]);
+    out().copy_from_slice(image);
+    for (to, from) in out().iter_mut().zip(image) {
+        *to = black_box(*from);
+    }
+    out().fill(black_box(0));
+}
+
 const EIGHT: usize = 4096 * 8;
 const NINE: usize = 4096 * 9;
 
-/// What is counted is what the first call does beyond the second.
-const ROWS: [(&str, Call, Call); 6] = [
+/// What is counted is what the first call does beyond the second. The first row is no row of the table: of it two copies
+/// and a clear must be counted.
+const ROWS: [(&str, Call, Call); 7] = [
+    ("", known, nothing),
     ("`WholeUpload::step` with a full block", whole::<NINE>, whole::<EIGHT>),
     ("`WholeUpload::step` to the finish of 4,093 bytes: a transfer with the check", whole::<4093>, nothing),
     (
@@ -83,35 +95,46 @@ fn clears(call: Call, proved: &Proved) -> u64 {
 /// Blocks that this program writes if it makes that call.
 fn written(place: [usize; 3]) -> io::Result<u64> {
     let mut program = Command::new(env::current_exe()?);
-    Ok(sweeps::blocks(program.arg("make").args(place.map(|n| n.to_string())))? as u64)
+    sweeps::blocks(program.arg("make").args(place.map(|n| n.to_string())))
 }
 
 /// Copies and clears of a row, of an archive.
 fn counted(at: usize, archive: usize) -> io::Result<[u64; 2]> {
     let (_, more, less) = ROWS[at];
-    let cleared = clears(more, &ARCHIVES[archive]) - clears(less, &ARCHIVES[archive]);
-    let blocks = written([at, 0, archive])? - written([at, 1, archive])?;
-    Ok([blocks - cleared, cleared])
+    let cleared = clears(more, &ARCHIVES[archive]).checked_sub(clears(less, &ARCHIVES[archive]));
+    let blocks = written([at, 0, archive])?.checked_sub(written([at, 1, archive])?);
+    let counts =
+        blocks.zip(cleared).and_then(|(blocks, cleared)| Some([blocks.checked_sub(cleared)?, cleared]));
+    counts.ok_or_else(|| io::Error::other(format!("row {at}: more was counted of the lesser call")))
 }
 
 /// Rows of a table.
 fn rows(between: &str) -> io::Result<()> {
-    for (at, (name, ..)) in ROWS.iter().enumerate() {
+    if counted(0, 0)? != [2, 1] {
+        return Err(io::Error::other(
+            "of two copies and a clear others were counted: not to be relied on here",
+        ));
+    }
+    for (at, (name, ..)) in ROWS.iter().enumerate().skip(1) {
         let figures: io::Result<Vec<_>> = (0..ARCHIVES.len()).map(|archive| counted(at, archive)).collect();
         print!("{}", row(name, figures?.iter().map(|counts| counts.map(|n| n.to_string()).join(between))));
     }
     Ok(())
 }
 
-fn main() -> io::Result<()> {
+fn main() -> ExitCode {
     let args: Vec<String> = env::args().skip(1).collect();
     let place = |n: usize| args[n].parse::<usize>().expect("a place");
-    match args[0].as_str() {
-        "rows" => rows(&args[1]),
-        _ => {
-            let (_, more, less) = ROWS[place(1)];
-            [more, less][place(2)](&ARCHIVES[place(3)]);
-            Ok(())
+    if args[0] == "make" {
+        let (_, more, less) = ROWS[place(1)];
+        [more, less][place(2)](&ARCHIVES[place(3)]);
+        return ExitCode::SUCCESS;
+    }
+    match rows(&args[1]) {
+        Ok(()) => ExitCode::SUCCESS,
+        Err(e) => {
+            eprintln!("copies: {e}");
+            ExitCode::FAILURE
         }
     }
 }

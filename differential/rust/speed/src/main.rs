@@ -120,13 +120,15 @@ fn main() -> ExitCode {
     match args[..] {
         ["measure", docs] => done(measure(docs)),
         #[cfg(earlier)]
-        ["beside"] => done(beside::print()),
+        ["beside", earlier, now] => done(beside::print(earlier, now)),
         ["calls", group, name, side, times] => {
             calls(group, name, side, times.parse().expect("a number"));
             ExitCode::SUCCESS
         }
         _ => {
-            eprintln!("usage: speed measure DOCS, or speed beside where an earlier revision is linked");
+            eprintln!(
+                "usage: speed measure DOCS, or speed beside EARLIER NOW where an earlier revision is linked"
+            );
             ExitCode::from(2)
         }
     }

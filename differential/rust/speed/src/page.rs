@@ -68,13 +68,17 @@ fn table(rows: &[Row]) -> String {
     text
 }
 
-/// At what share of the speed of the check alone the whole upload of the same image runs.
-fn share(rows: &[Row]) -> String {
+/// At what share of the speed of the check alone an upload of the same image runs, by the seconds of both.
+pub fn share(check: f64, upload: f64) -> String {
+    format!("{:.3}", check / upload)
+}
+
+fn share_of(rows: &[Row]) -> String {
     let seconds = |group, name| {
         let row = rows.iter().find(|row| row.group == group && row.name == name);
         row.expect("the check and the whole upload have a row").proved
     };
-    format!("{:.2}", seconds("check", "64 MiB") / seconds("upload of 64 MiB", "whole"))
+    share(seconds("check", "64 MiB"), seconds("upload of 64 MiB", "whole"))
 }
 
 const LEFT: f64 = 300.0;
@@ -131,7 +135,7 @@ pub fn write(docs: &Path, rows: &[Row], copies: &str, stack: &str) -> io::Result
         .replace("{library}", &library)
         .replace("{machine}", &machine())
         .replace("{table}", table(rows).trim_end())
-        .replace("{share}", &share(rows))
+        .replace("{share}", &share_of(rows))
         .replace("{copies}", copies.trim_end())
         .replace("{stack}", stack.trim_end());
     fs::write(docs.join("speed.md"), text)?;

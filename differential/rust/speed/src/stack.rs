@@ -36,7 +36,7 @@ extern "C" fn part(proved: &Proved) {
     assert_eq!(proved.upload_parts(4096, &IMAGE, out(), 1), 28);
 }
 
-const CALLS: [(&str, Call); 12] = [
+const CALLS: [(&str, Call); 13] = [
     ("the check, eight bytes at a time as one number (`crc::update`)", update::<8192>),
     ("the check of 15 bytes (`crc::update`)", update::<15>),
     ("the check, byte by byte by a table (`crc::update_by_table`)", update_by_table),
@@ -45,6 +45,7 @@ const CALLS: [(&str, Call); 12] = [
     ("a whole upload of 4,094 bytes: a transfer with the check, then the last zero", whole::<4094, 4096, 0>),
     ("a whole upload of 4,093 bytes: a transfer with the check", whole::<4093, 4096, 0>),
     ("a whole upload of 100 bytes: a transfer with the check", whole::<100, 4096, 0>),
+    ("a whole upload of 16 bytes: a transfer with the check", whole::<16, 4096, 0>),
     ("a whole upload of 15 bytes: a transfer with the check", whole::<15, 4096, 0>),
     ("a whole upload of 0 bytes: the check alone", whole::<0, 4096, 0>),
     ("a whole upload into an output of 4,095 bytes: refused (20)", whole::<8192, 4095, 20>),
