@@ -37,6 +37,13 @@ fn out() -> &'static mut [u8] {
     unsafe { &mut OUT }
 }
 
+static mut TWO: [u8; 8192] = [0; 8192];
+
+#[allow(static_mut_refs)]
+fn two() -> &'static mut [u8] {
+    unsafe { &mut TWO }
+}
+
 fn nothing(_: &Proved) {}
 
 fn whole<const LENGTH: usize>(proved: &Proved) {
@@ -49,23 +56,34 @@ fn parts<const SIZE: usize, const LENGTH: usize>(proved: &Proved) {
 
 type Call = fn(&Proved);
 
-/// Two copies, by memcpy and by a loop that is none, and a clear.
-fn known(_: &Proved) {
-    let image = black_box(&IMAGE[..4096]);
-    out().copy_from_slice(image);
-    for (to, from) in out().iter_mut().zip(image) {
+/// Copies and clears of `known`.
+const KNOWN: [u64; 2] = [4, 1];
+
+/// One byte after another, by no memcpy.
+fn copy(to: &mut [u8]) {
+    for (to, from) in to.iter_mut().zip(&IMAGE) {
         *to = black_box(*from);
     }
+}
+
+/// Copies by memcpy and by a loop, a clear, and two blocks beside each other, the second of them begun before.
+fn known(_: &Proved) {
+    out().copy_from_slice(black_box(&IMAGE[..4096]));
+    copy(out());
     out().fill(black_box(0));
+    let (first, second) = black_box(two()).split_at_mut(4096);
+    copy(first);
+    copy(&mut second[512..1024]);
+    copy(second);
 }
 
 const EIGHT: usize = 4096 * 8;
 const NINE: usize = 4096 * 9;
 
-/// What is counted is what the first call does beyond the second. The first row is no row of the table: of it two copies
-/// and a clear must be counted.
+/// What is counted is what the first call does beyond the second. The first row is no row of the table: its counts are
+/// known.
 const ROWS: [(&str, Call, Call); 7] = [
-    ("", known, nothing),
+    ("what is known", known, nothing),
     ("`WholeUpload::step` with a full block", whole::<NINE>, whole::<EIGHT>),
     ("`WholeUpload::step` to the finish of 4,093 bytes: a transfer with the check", whole::<4093>, nothing),
     (
@@ -100,20 +118,26 @@ fn written(place: [usize; 3]) -> io::Result<u64> {
 
 /// Copies and clears of a row, of an archive.
 fn counted(at: usize, archive: usize) -> io::Result<[u64; 2]> {
-    let (_, more, less) = ROWS[at];
-    let cleared = clears(more, &ARCHIVES[archive]).checked_sub(clears(less, &ARCHIVES[archive]));
-    let blocks = written([at, 0, archive])?.checked_sub(written([at, 1, archive])?);
-    let counts =
-        blocks.zip(cleared).and_then(|(blocks, cleared)| Some([blocks.checked_sub(cleared)?, cleared]));
-    counts.ok_or_else(|| io::Error::other(format!("row {at}: more was counted of the lesser call")))
+    let (name, more, less) = ROWS[at];
+    let cleared = [more, less].map(|call| clears(call, &ARCHIVES[archive]));
+    let blocks = [written([at, 0, archive])?, written([at, 1, archive])?];
+    let copies = (blocks[0] + cleared[1]).checked_sub(blocks[1] + cleared[0]);
+    copies.zip(cleared[0].checked_sub(cleared[1])).map(|(copies, cleared)| [copies, cleared]).ok_or_else(
+        || {
+            io::Error::other(format!(
+                "{name}: blocks written {blocks:?}, of these cleared {cleared:?}, more and less"
+            ))
+        },
+    )
 }
 
 /// Rows of a table.
 fn rows(between: &str) -> io::Result<()> {
-    if counted(0, 0)? != [2, 1] {
-        return Err(io::Error::other(
-            "of two copies and a clear others were counted: not to be relied on here",
-        ));
+    let known = counted(0, 0)?;
+    if known != KNOWN {
+        return Err(io::Error::other(format!(
+            "the counter is not right on this machine: copies and clears are {KNOWN:?}, and it counted {known:?}"
+        )));
     }
     for (at, (name, ..)) in ROWS.iter().enumerate().skip(1) {
         let figures: io::Result<Vec<_>> = (0..ARCHIVES.len()).map(|archive| counted(at, archive)).collect();

@@ -1,5 +1,6 @@
 //! How often a program writes 4,096 bytes one after another: every store that valgrind's lackey sees, whether it is
-//! memcpy's, memset's or a loop's. A copy that begins at its end is not seen; no program here makes one.
+//! memcpy's, memset's or a loop's. Not seen are a copy that begins at its end, one of two that go together store by
+//! store, and one whose stores have more than `PLACES` others between them; no program here makes such.
 
 use std::{
     collections::VecDeque,
