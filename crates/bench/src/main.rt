@@ -1,4 +1,7 @@
 // Deals the deck on standard input to a stand-in head, and prints a line for each block.
+
+#![tactic(auto)]
+
 use deck::bench::Bench;
 use deck_chunk::{ChunkAnswer, Deck};
 use deck_io::complaint::{complain, complain_of};
@@ -7,7 +10,7 @@ use deck_io::output::write_out;
 use deck_io::within;
 
 // The deck after a chunk, and whether there may be more of it.
-#[derive(Drop)]
+#[derive(Clone, Copy)]
 struct Turn {
     deck: Deck,
     goes_on: bool,

@@ -1,4 +1,7 @@
 // Converts the deck on standard input: the same deck, its right blocks of kind 13 as kind 12, on standard output.
+
+#![tactic(auto)]
+
 use deck_convert::Convert;
 use deck_io::complaint::{complain, complain_of};
 use deck_io::input::{Input, fill, usable_bytes};
@@ -8,7 +11,7 @@ use deck_io::within;
 const BLOCK: usize = 512;
 
 // The deck after a chunk, how many whole blocks of it were read, and whether there may be more of it.
-#[derive(Drop)]
+#[derive(Clone, Copy)]
 struct Turn {
     convert: Convert,
     blocks: u64,

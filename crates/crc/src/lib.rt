@@ -1,4 +1,7 @@
 // CRC-16/IBM-3740: eight bytes at a time as one number, or a byte at a time by a table of 256 entries.
+
+#![tactic(auto)]
+
 ghost use Rattle.std.specs.Prelude.{◌≡◌, ℕ, ◌≤◌, ◌<◌, length};
 ghost use Rattle.crc.specs.Check.{bits_step, byte_step, crc_over, check};
 ghost use Rattle.crc.specs.Table.{crc_table};

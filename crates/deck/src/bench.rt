@@ -13,7 +13,7 @@ use operation_finish::Beside;
 const DEFAULT_BYTE: u8 = 0xFF;
 
 // The stand-in, and the number and the tag of the last block.
-#[derive(Drop)]
+#[derive(Clone, Copy)]
 pub struct Bench {
     pub device: MockState,
     pub number: u64,
@@ -21,14 +21,14 @@ pub struct Bench {
 }
 
 // Done, or 60 or 61 for the lent flash, and the bench, fresh in either case.
-#[derive(Drop)]
+#[derive(Clone, Copy)]
 pub struct BenchStart {
     pub answer: MockAnswer,
     pub bench: Bench,
 }
 
 // What a block came to, and the bench after it; the block's number is the bench's.
-#[derive(Drop)]
+#[derive(Clone, Copy)]
 pub struct DeckStep {
     pub verdict: Verdict,
     pub beside: Beside,

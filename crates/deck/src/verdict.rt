@@ -15,7 +15,7 @@ use run_turn::Stop;
 use run_upload::{LoadAnswer, LoadRun, LoadStop};
 
 // The value, or the number of a refusal.
-#[derive(Drop)]
+#[derive(Clone, Copy)]
 pub enum Verdict {
     Done(UsbReply),
     Refused(u8),
@@ -34,7 +34,7 @@ impl Verdict {
 }
 
 // `beside` has a reply's bytes, and zeros where there is none.
-#[derive(Drop)]
+#[derive(Clone, Copy)]
 pub struct Dealt {
     pub verdict: Verdict,
     pub beside: Beside,

@@ -1,4 +1,7 @@
 // One block of a deck: what it asks for, or the first of its rules that it breaks.
+
+#![tactic(auto)]
+
 pub mod check;
 
 ghost use Rattle.std.specs.Prelude.{◌≡◌, ◌≤◌, length};
@@ -16,7 +19,7 @@ const CARD_BYTES: usize = 512;
 const WITHDRAWN: u8 = 13;
 
 // What a block asks for: an operation with its address and count, or an upload with its area and length; then the fill byte.
-#[derive(Drop)]
+#[derive(Clone, Copy)]
 pub enum Request {
     ChipInfo,
     FlashId,
@@ -32,7 +35,7 @@ pub enum Request {
     WriteArea(u16, u32, u8),
 }
 
-#[derive(Drop)]
+#[derive(Clone, Copy)]
 pub enum CardAnswer {
     Asks(Request),
     // 44, 40, 46, 41, 42, 43, 45
@@ -64,7 +67,7 @@ impl CardAnswer {
 }
 
 // The fields of a block: byte 0, bytes 1 to 4, bytes 5 and 6, byte 7, bytes 510 and 511.
-#[derive(Drop)]
+#[derive(Clone, Copy)]
 pub struct Fields {
     pub kind: u8,
     pub word: u32,

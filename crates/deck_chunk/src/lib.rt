@@ -1,4 +1,7 @@
 // A deck dealt chunk by chunk: the lines of a chunk's blocks go to a lent buffer.
+
+#![tactic(auto)]
+
 ghost use Rattle.std.specs.Prelude.{◌≡◌, ◌+◌, ◌*◌, ◌≤◌, length, take};
 ghost use Rattle.promise.specs.Told.{number};
 ghost use Rattle.promise.specs.Over.{over};
@@ -8,7 +11,7 @@ ghost use Rattle.deck_chunk.specs.Deck.{table, new_deck, deal_next, deal_all};
 ghost use Rattle.deck_chunk.specs.Chunk.{chunk_told, deal_chunk, ChunkMeets};
 ghost use Rattle.deck_chunk.specs.Code.{LinedMeets, NextMeets, DoneMeets};
 
-use bytes;
+use lent_bytes;
 use deck::bench::Bench;
 use deck_line::{Line, line_of};
 
@@ -17,20 +20,20 @@ const BLOCK: usize = 512;
 const LONGEST_LINE: usize = 64;
 
 // The bench between two chunks, and whether a short block has ended the deck.
-#[derive(Drop)]
+#[derive(Clone, Copy)]
 pub struct Deck {
     pub bench: Bench,
     pub is_over: bool,
 }
 
 // How many blocks were dealt, and how many bytes their lines have.
-#[derive(Drop)]
+#[derive(Clone, Copy)]
 pub struct ChunkCount {
     pub blocks: usize,
     pub bytes: usize,
 }
 
-#[derive(Drop)]
+#[derive(Clone, Copy)]
 pub enum ChunkAnswer {
     Dealt(ChunkCount),
     // 20: the buffer for the lines
@@ -49,21 +52,21 @@ impl ChunkAnswer {
     }
 }
 
-#[derive(Drop)]
+#[derive(Clone, Copy)]
 pub struct ChunkStep {
     pub answer: ChunkAnswer,
     pub deck: Deck,
 }
 
 // A block's line, and the bench after it.
-#[derive(Drop)]
+#[derive(Clone, Copy)]
 struct Lined {
     line: Line,
     bench: Bench,
 }
 
 // How far a chunk is dealt.
-#[derive(Drop)]
+#[derive(Clone, Copy)]
 struct Progress {
     deck: Deck,
     blocks: usize,
@@ -111,7 +114,7 @@ fn put_line(line: Line, at: usize, lines: &mut [u8]) -> usize
 {
     let text = line.bytes;
     let used = line.used;
-    bytes::copy(&text[..used], &mut lines[at..]);
+    lent_bytes::copy(&text[..used], &mut lines[at..]);
     at + used
 }
 

@@ -1,4 +1,7 @@
 // Decks with uploads without check, kind 13: each of them whose check is right becomes an upload with one, kind 12, and all else stays.
+
+#![tactic(auto)]
+
 ghost use Rattle.std.specs.Prelude.{◌≡◌, ◌≤◌, length};
 ghost use Rattle.deck_convert.specs.Convert.{new_convert, as_upload, ConvertMeets};
 ghost use Rattle.deck_convert.specs.Code.{block_end, BlockMeets};
@@ -15,7 +18,7 @@ const WITHDRAWN: u8 = 13;
 
 // A deck between two chunks: the tag of its last block, how many blocks were converted, and how many of kind 13 were left as they are because their
 // check is wrong.
-#[derive(Drop)]
+#[derive(Clone, Copy)]
 pub struct Convert {
     pub tag: u32,
     pub converted: u64,

@@ -11,7 +11,7 @@ const BLOCK: usize = 512;
 const CHUNK: usize = 8192;
 
 // How many bytes of the chunk were read, and whether the input is over or could not be read on.
-#[derive(Drop)]
+#[derive(Clone, Copy)]
 pub struct Input {
     pub count: usize,
     pub is_over: bool,

@@ -1,6 +1,9 @@
 // What the programs over decks read and write: chunks of whole blocks in, bytes out, and a line to standard error.
 //
 // No contract can say which bytes are read or written. These say how many, and that fewer than asked are the last.
+
+#![tactic(auto)]
+
 pub mod complaint;
 pub mod input;
 pub mod output;

@@ -6,7 +6,7 @@ use crate::MOST_TRIES;
 use libc::{EINTR, STDOUT_FILENO};
 
 // How many bytes were written, and whether the output takes no more.
-#[derive(Drop)]
+#[derive(Clone, Copy)]
 pub struct Output {
     pub count: usize,
     pub is_shut: bool,

@@ -1,4 +1,7 @@
 // The line that is printed for a block: its number, 0 or the refusal, and the value. Nothing is lent: a line is made by value.
+
+#![tactic(auto)]
+
 ghost use Rattle.std.specs.Prelude.{◌≡◌, ◌<◌};
 ghost use Rattle.operation_finish.specs.Reply.{reply_given};
 ghost use Rattle.deck.specs.Verdict.{verdict_told};
@@ -13,7 +16,7 @@ use operation_finish::{Beside, SectorTransfer, UsbReply};
 const LONGEST: usize = 64;
 
 // The text is the first `used` bytes, and every other byte is 0.
-#[derive(Drop)]
+#[derive(Clone, Copy)]
 pub struct Line {
     pub bytes: [u8; 64],
     pub used: usize,

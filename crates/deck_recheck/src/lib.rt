@@ -1,4 +1,7 @@
 // Decks made before a block's check had its place in it: each block's old check is looked at, and the new one put in its place.
+
+#![tactic(auto)]
+
 ghost use Rattle.std.specs.Prelude.{◌≡◌, ℕ, ◌<◌, ◌≤◌, length, ◌==◌};
 ghost use Rattle.promise.specs.Told.{number};
 ghost use Rattle.deck_block.specs.Block.{fields_of, first_check, with_check};
@@ -12,7 +15,7 @@ use protocol_bytes::order::u16_from_be_bytes;
 const BLOCK: usize = 512;
 
 // What has stopped a deck.
-#[derive(Drop)]
+#[derive(Clone, Copy)]
 pub enum Stop {
     NotYet,
     // 40, 44
@@ -34,7 +37,7 @@ impl Stop {
 }
 
 // A deck between two chunks: number and tag of its last block, and what has stopped it there.
-#[derive(Drop)]
+#[derive(Clone, Copy)]
 pub struct Recheck {
     pub number: u64,
     pub tag: u32,
@@ -42,7 +45,7 @@ pub struct Recheck {
 }
 
 // How many of the chunk's first bytes are rechecked, and the deck behind them.
-#[derive(Drop)]
+#[derive(Clone, Copy)]
 pub struct RecheckStep {
     pub bytes: usize,
     pub recheck: Recheck,

@@ -9,20 +9,20 @@ ghost use Rattle.ffi.specs.Code.{pace_of, part_pace, HandsOver};
 use maskrom::{MaskRomOperation, PartStep, UploadStep, WholeUpload};
 
 // Whether one more step follows, or the number that the upload ends with.
-#[derive(Drop)]
+#[derive(Clone, Copy)]
 pub(crate) enum Pace {
     Goes,
     Ends(u8),
 }
 
 // How many bytes a part took, or the number of its refusal.
-#[derive(Drop)]
+#[derive(Clone, Copy)]
 pub(crate) enum PartPace {
     Took(usize),
     Refused(u8),
 }
 
-#[derive(Drop)]
+#[derive(Clone, Copy)]
 pub(crate) struct HandedOver {
     pub number: u8,
     pub operation: MaskRomOperation,

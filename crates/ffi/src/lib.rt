@@ -1,5 +1,8 @@
 // What C and Rust link: the proved functions over numbers, byte slices and a pair of counts, each with the contract of the one that it calls.
 // `commands` has commands as numbers, `sectors` sector operations, `uploads` uploads to their end, `driving` the loops of an upload.
+
+#![tactic(auto)]
+
 pub mod commands;
 mod driving;
 pub mod sectors;

@@ -1,4 +1,7 @@
 // Lists what is in the loader file on standard input.
+
+#![tactic(auto)]
+
 use deck_io::complaint::complain;
 use deck_io::input::fill;
 use deck_io::within;
@@ -11,7 +14,7 @@ const LARGEST: usize = 4194304;
 const CHUNKS: usize = 513;
 
 // How much was read, and how that ended.
-#[derive(Drop)]
+#[derive(Clone, Copy)]
 struct Reading {
     count: usize,
     is_over: bool,
@@ -21,7 +24,7 @@ struct Reading {
 // What does not fit is past the largest file, of which nothing is listed.
 fn put(rest: &mut [u8], new: &[u8]) {
     if new.len() <= rest.len() {
-        bytes::copy(new, rest);
+        lent_bytes::copy(new, rest);
     }
 }
 

@@ -3,7 +3,7 @@ ghost use Rattle.std.specs.Prelude.{◌≡◌};
 ghost use Rattle.loader_records.specs.Refusals.{boot_error_number, boot_answer_number};
 
 // Why a loader file, or a record of one, can't be read.
-#[derive(Drop)]
+#[derive(Clone, Copy)]
 pub enum RkBootError {
     // 70: how many bytes there are
     TooShort(usize),
@@ -31,7 +31,7 @@ impl RkBootError {
 }
 
 // What reading a record answers. The record stands beside it, zeros where it is refused.
-#[derive(Drop)]
+#[derive(Clone, Copy)]
 pub enum RkBootAnswer {
     Read,
     Refused(RkBootError),

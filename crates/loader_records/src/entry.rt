@@ -4,13 +4,13 @@ ghost use Rattle.loader_records.specs.Records.{name_of, entry_of, no_entry, read
 ghost use Rattle.loader_records.specs.Refusals.{no_tag, ReadMeets};
 
 use crate::answer::{RkBootAnswer, RkBootError};
-use bytes;
+use lent_bytes;
 use protocol_bytes::order::{u16_from_le_bytes, u32_from_le_bytes};
 
 // Total size of an entry.
 pub const RK_BOOT_ENTRY_BYTES: usize = 57;
 
-#[derive(Drop)]
+#[derive(Clone, Copy)]
 pub struct RkBootEntry {
     // of this entry
     pub size: u8,
@@ -24,7 +24,7 @@ pub struct RkBootEntry {
     pub data_delay: u32,
 }
 
-#[derive(Drop)]
+#[derive(Clone, Copy)]
 pub struct RkBootEntryRead {
     pub answer: RkBootAnswer,
     pub entry: RkBootEntry,
@@ -81,7 +81,7 @@ impl RkBootEntry {
             };
         }
         let mut b = [0; 57];
-        bytes::copy(&bytes[..RK_BOOT_ENTRY_BYTES], &mut b);
+        lent_bytes::copy(&bytes[..RK_BOOT_ENTRY_BYTES], &mut b);
         RkBootEntryRead {
             answer: RkBootAnswer::Read,
             entry: entry_of(b),

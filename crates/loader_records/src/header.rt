@@ -7,7 +7,7 @@ ghost use Rattle.loader_records.specs.Code.{unread};
 use crate::answer::{RkBootAnswer, RkBootError};
 use crate::list::{RkBootHeaderEntry, list_of};
 use crate::time::{RkTime, time_of};
-use bytes;
+use lent_bytes;
 use protocol_bytes::order::{u16_from_le_bytes, u32_from_le_bytes};
 use protocol_bytes::signature::starts_with;
 
@@ -23,7 +23,7 @@ const BOOT: [u8; 4] = [0x42, 0x4F, 0x4F, 0x54];
 // LDR and a space
 const LDR: [u8; 4] = [0x4C, 0x44, 0x52, 0x20];
 
-#[derive(Drop)]
+#[derive(Clone, Copy)]
 pub struct RkBootHeader {
     pub tag: [u8; 4],
     pub size: u16,
@@ -38,7 +38,7 @@ pub struct RkBootHeader {
     pub rc4_flag: u8,
 }
 
-#[derive(Drop)]
+#[derive(Clone, Copy)]
 pub struct RkBootHeaderRead {
     pub answer: RkBootAnswer,
     pub header: RkBootHeader,
@@ -100,7 +100,7 @@ impl RkBootHeader {
             );
         }
         let mut b = [0; 45];
-        bytes::copy(&bytes[..READ_BYTES], &mut b);
+        lent_bytes::copy(&bytes[..READ_BYTES], &mut b);
         RkBootHeaderRead {
             answer: RkBootAnswer::Read,
             header: header_of(b),

@@ -4,20 +4,20 @@ ghost use Rattle.loader_records.specs.Records.{list_of, no_list, read_list};
 ghost use Rattle.loader_records.specs.Refusals.{no_tag, ReadMeets};
 
 use crate::answer::{RkBootAnswer, RkBootError};
-use bytes;
+use lent_bytes;
 use protocol_bytes::order::u32_from_le_bytes;
 
 // Total size of a list.
 pub const RK_BOOT_HEADER_ENTRY_BYTES: usize = 6;
 
-#[derive(Drop)]
+#[derive(Clone, Copy)]
 pub struct RkBootHeaderEntry {
     pub count: u8,
     pub offset: u32,
     pub size: u8,
 }
 
-#[derive(Drop)]
+#[derive(Clone, Copy)]
 pub struct RkBootHeaderEntryRead {
     pub answer: RkBootAnswer,
     pub list: RkBootHeaderEntry,
@@ -45,7 +45,7 @@ impl RkBootHeaderEntry {
                 list: list_of(b),
             };
         }
-        bytes::copy(&bytes[..RK_BOOT_HEADER_ENTRY_BYTES], &mut b);
+        lent_bytes::copy(&bytes[..RK_BOOT_HEADER_ENTRY_BYTES], &mut b);
         RkBootHeaderEntryRead {
             answer: RkBootAnswer::Read,
             list: list_of(b),

@@ -4,13 +4,13 @@ ghost use Rattle.loader_records.specs.Records.{time_of, no_time, read_time};
 ghost use Rattle.loader_records.specs.Refusals.{no_tag, ReadMeets};
 
 use crate::answer::{RkBootAnswer, RkBootError};
-use bytes;
+use lent_bytes;
 use protocol_bytes::order::u16_from_le_bytes;
 
 // Total size of a time.
 pub const RK_TIME_BYTES: usize = 7;
 
-#[derive(Drop)]
+#[derive(Clone, Copy)]
 pub struct RkTime {
     pub year: u16,
     pub month: u8,
@@ -20,7 +20,7 @@ pub struct RkTime {
     pub second: u8,
 }
 
-#[derive(Drop)]
+#[derive(Clone, Copy)]
 pub struct RkTimeRead {
     pub answer: RkBootAnswer,
     pub time: RkTime,
@@ -51,7 +51,7 @@ impl RkTime {
                 time: time_of(b),
             };
         }
-        bytes::copy(&bytes[..RK_TIME_BYTES], &mut b);
+        lent_bytes::copy(&bytes[..RK_TIME_BYTES], &mut b);
         RkTimeRead {
             answer: RkBootAnswer::Read,
             time: time_of(b),

@@ -1,6 +1,9 @@
 // What a loader file says, in words on standard output: its header, a line for each entry, and at the end whether the file is whole or why it is not.
 //
 // This is what the program `loader` prints and `try_loader` tries. Its functions promise that they are safe and end.
+
+#![tactic(auto)]
+
 mod entries;
 mod header;
 mod text;

@@ -1,4 +1,7 @@
 // The entries of a loader file: walked one by one, examined by one call, and the data of one as a part of the file.
+
+#![tactic(auto)]
+
 pub mod walk;
 pub mod whole;
 

@@ -16,14 +16,14 @@ const LISTS: u8 = 3;
 
 // Where a walk stands: a list (0 for 471, 1 for 472, 2 for loader), and the entry of it that is looked for next. An entry past its list's last is the
 // next list's first, and a list past the third is the end.
-#[derive(Drop)]
+#[derive(Clone, Copy)]
 pub struct Walk {
     pub list: u8,
     pub entry: u16,
 }
 
 // An entry that was found: its list, its number there, and its data's place and length in the file.
-#[derive(Drop)]
+#[derive(Clone, Copy)]
 pub struct EntryPlace {
     pub list: u8,
     pub entry: u16,
@@ -31,7 +31,7 @@ pub struct EntryPlace {
     pub length: usize,
 }
 
-#[derive(Drop)]
+#[derive(Clone, Copy)]
 pub enum WalkAnswer {
     Entry(EntryPlace),
     End,
@@ -51,7 +51,7 @@ impl WalkAnswer {
     }
 }
 
-#[derive(Drop)]
+#[derive(Clone, Copy)]
 pub struct WalkStep {
     pub answer: WalkAnswer,
     // the entry that was found, zeros otherwise

@@ -10,14 +10,14 @@ use loader_records::answer::RkBootError;
 use loader_records::header::RkBootHeader;
 
 // How many entries each list has.
-#[derive(Drop)]
+#[derive(Clone, Copy)]
 pub struct EntryCounts {
     pub entry_471: u8,
     pub entry_472: u8,
     pub entry_loader: u8,
 }
 
-#[derive(Drop)]
+#[derive(Clone, Copy)]
 pub enum ExamineAnswer {
     Whole(EntryCounts),
     Refused(RkBootError),
@@ -35,7 +35,7 @@ impl ExamineAnswer {
     }
 }
 
-#[derive(Drop)]
+#[derive(Clone, Copy)]
 pub struct Examined {
     pub answer: ExamineAnswer,
     // the four bytes of an unknown tag, zeros otherwise

@@ -1,5 +1,8 @@
 // An image is uploaded in control writes of 4,096 bytes and a shorter last one, handed over part by part (`MaskRomOperation`) or lent whole at
 // every step (`write_area`, `WholeUpload`).
+
+#![tactic(auto)]
+
 ghost use Rattle.std.specs.Prelude.{◌≡◌, ◌+◌, ◌≤◌, min, length};
 ghost use Rattle.crc.specs.Check.{crc_over};
 ghost use Rattle.promise.specs.Told.{given, number};
@@ -22,7 +25,7 @@ const CRC_START: u16 = 0xFFFF;
 const FEW: usize = 16;
 
 // A control write with the first `size` bytes of the output.
-#[derive(Drop)]
+#[derive(Clone, Copy)]
 pub struct Control {
     pub request_type: u8,
     pub request: u8,
@@ -31,7 +34,7 @@ pub struct Control {
     pub size: usize,
 }
 
-#[derive(Drop)]
+#[derive(Clone, Copy)]
 pub enum PartStep {
     // That many bytes were taken.
     Taken(usize),
@@ -42,7 +45,7 @@ pub enum PartStep {
     ImageTooLong,
 }
 
-#[derive(Drop)]
+#[derive(Clone, Copy)]
 pub enum UploadStep {
     WriteControl(Control),
     Finished,
@@ -51,7 +54,7 @@ pub enum UploadStep {
 }
 
 // A part-wise upload. The first `taken % 4096` bytes of the block wait for their transfer; the check covers all that was taken.
-#[derive(Drop)]
+#[derive(Clone, Copy)]
 pub struct MaskRomOperation {
     pub area: u16,
     pub taken: u32,
@@ -60,20 +63,20 @@ pub struct MaskRomOperation {
     pub block: [u8; 4096],
 }
 
-#[derive(Drop)]
+#[derive(Clone, Copy)]
 pub struct PartStepped {
     pub step: PartStep,
     pub next: MaskRomOperation,
 }
 
-#[derive(Drop)]
+#[derive(Clone, Copy)]
 pub struct CloseStepped {
     pub step: UploadStep,
     pub next: MaskRomOperation,
 }
 
 // A whole upload, of an image that is lent at every step.
-#[derive(Drop)]
+#[derive(Clone, Copy)]
 pub struct WholeUpload {
     pub area: u16,
     pub length: u32,
@@ -82,19 +85,19 @@ pub struct WholeUpload {
     pub steps: MaskRomSteps,
 }
 
-#[derive(Drop)]
+#[derive(Clone, Copy)]
 pub enum UploadStart {
     Started,
     ImageTooLong,
 }
 
-#[derive(Drop)]
+#[derive(Clone, Copy)]
 pub struct WholeStart {
     pub start: UploadStart,
     pub upload: WholeUpload,
 }
 
-#[derive(Drop)]
+#[derive(Clone, Copy)]
 pub struct WholeStepped {
     pub step: UploadStep,
     pub next: WholeUpload,
@@ -203,7 +206,7 @@ impl MaskRomOperation {
     {
         let at = (self.taken % 4096) as usize;
         let mut block = self.block;
-        bytes::copy(more, &mut block[at..]);
+        lent_bytes::copy(more, &mut block[at..]);
         let crc = crc::update(self.crc, more);
         self.with(self.taken + (more.len() as u32), crc, block)
     }
@@ -236,7 +239,7 @@ impl MaskRomOperation {
             return next.after_part(PartStep::Taken(n));
         }
         let block = next.block;
-        let size = bytes::copy(&block, out);
+        let size = lent_bytes::copy(&block, out);
         next.after_part(PartStep::WriteControl(n, control_of(self.area, size)))
     }
 

@@ -1,4 +1,7 @@
 // One transfer of an upload, put together in the output: what is left of the image at its front, then the pad, the check or the last zero.
+
+#![tactic(auto)]
+
 ghost use Rattle.std.specs.Prelude.{◌≡◌, [], ◌∷◌, ◌++◌, ◌+◌, ◌≤◌, min, length, take};
 ghost use Rattle.promise.specs.Told.{number};
 ghost use Rattle.maskrom_transfer.specs.Moves.{block_size, check_bytes, writing, moves_at};
@@ -9,7 +12,7 @@ ghost use Rattle.maskrom_transfer.specs.Sending.{sent_told, send_step};
 const BLOCK: usize = 4096;
 
 // Where an upload stands: the image goes on, its check is left, the last zero is left, nothing is left.
-#[derive(Drop)]
+#[derive(Clone, Copy)]
 pub enum MaskRomSteps {
     Writing,
     Check,
@@ -18,14 +21,14 @@ pub enum MaskRomSteps {
 }
 
 // What was put into the output, the check behind it, and where the upload then stands.
-#[derive(Drop)]
+#[derive(Clone, Copy)]
 pub struct Moved {
     pub size: usize,
     pub crc: u16,
     pub steps: MaskRomSteps,
 }
 
-#[derive(Drop)]
+#[derive(Clone, Copy)]
 pub enum Sent {
     Moved(Moved),
     OutputTooShort,
@@ -54,7 +57,7 @@ fn put(bytes: &[u8], out: &mut [u8]) -> usize
     requires { length bytes.now ≤ length out.old }
     ensures { PutMeets result bytes.now out.old out.new }
 {
-    bytes::copy(bytes, out)
+    lent_bytes::copy(bytes, out)
 }
 
 // The same with a zero behind them.

@@ -13,7 +13,7 @@ use mock_base::range::{FlashSectors, flash_sectors, size_answer};
 use mock_effects::{SessionStep, read_step_by, write_step_by};
 use mock_table::session::{CommandState, LastReset, Session};
 
-#[derive(Drop)]
+#[derive(Clone, Copy)]
 pub struct MockState {
     pub config: MockDeviceConfig,
     pub variety: Variety,
@@ -25,7 +25,7 @@ pub struct MockState {
     pub current_command: CommandState,
 }
 
-#[derive(Drop)]
+#[derive(Clone, Copy)]
 pub struct MockStep {
     pub answer: MockAnswer,
     pub state: MockState,

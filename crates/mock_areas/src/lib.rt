@@ -1,48 +1,51 @@
 // The areas of a lent store: eight slots of equal size, each free or held by an area's number. A write appends to its area's slot.
+
+#![tactic(auto)]
+
 ghost use Rattle.std.specs.Prelude.{◌≡◌, ◌+◌, ◌<◌, leb, length};
 ghost use Rattle.mock_areas.specs.Slots.{passes, first_at, place, fresh_areas, area_found};
 ghost use Rattle.promise.specs.Told.{number};
 ghost use Rattle.mock_areas.specs.Append.{held_by, AppendMeets, append_step, area_told};
 
-use bytes;
+use lent_bytes;
 
 const SLOTS: usize = 8;
 
 // A slot: while it is held, by which number, and how many of its bytes are used. A free slot's number and count mean nothing.
-#[derive(Drop)]
+#[derive(Clone, Copy)]
 pub struct Area {
     pub held: bool,
     pub number: u16,
     pub used: usize,
 }
 
-#[derive(Drop)]
+#[derive(Clone, Copy)]
 pub struct Areas {
     pub slots: [Area; 8],
 }
 
 // What a slot is looked for by.
-#[derive(Drop)]
+#[derive(Clone, Copy)]
 pub enum Wanted {
     Free,
     Number(u16),
 }
 
 // Where an area's next bytes go. No slot is as the slots' number.
-#[derive(Drop)]
+#[derive(Clone, Copy)]
 pub struct Place {
     pub slot: usize,
     pub used: usize,
 }
 
 // Where an area's bytes stand in the store.
-#[derive(Drop)]
+#[derive(Clone, Copy)]
 pub enum AreaFound {
     NotHeld,
     Held { start: usize, length: usize },
 }
 
-#[derive(Drop)]
+#[derive(Clone, Copy)]
 pub enum AreaAnswer {
     Written,
     // 58
@@ -51,7 +54,7 @@ pub enum AreaAnswer {
     SlotFull,
 }
 
-#[derive(Drop)]
+#[derive(Clone, Copy)]
 pub struct AreaStep {
     pub answer: AreaAnswer,
     pub areas: Areas,
@@ -190,7 +193,7 @@ impl Areas {
             };
         }
         let at = slot * size + used;
-        bytes::copy(data, &mut store[at..]);
+        lent_bytes::copy(data, &mut store[at..]);
         AreaStep {
             answer: AreaAnswer::Written,
             areas: self.hold(slot, number, used + data.len()),

@@ -1,5 +1,5 @@
 // Which variety of flash a stand-in device has.
-#[derive(Drop)]
+#[derive(Clone, Copy)]
 pub enum Variety {
     // the Rust's: a write replaces what stood there
     First,

@@ -8,7 +8,7 @@ const DEFAULT_SECTORS: usize = 128;
 
 const DEFAULT_BLOCK_SIZE_SECTORS: u16 = 64;
 
-#[derive(Drop)]
+#[derive(Clone, Copy)]
 pub struct MockDeviceConfig {
     pub chip_info: [u8; 16],
     pub flash_id: [u8; 5],

@@ -6,7 +6,7 @@ ghost use Rattle.mock_base.specs.Told.{error_number, result_told};
 use protocol::CommandBlockParseError;
 use protocol_codes::CommandCode;
 
-#[derive(Drop)]
+#[derive(Clone, Copy)]
 pub enum MockTransportError {
     // 50
     InvalidTransferLength {
@@ -47,13 +47,13 @@ pub enum MockTransportError {
     StoreLength,
 }
 
-#[derive(Drop)]
+#[derive(Clone, Copy)]
 pub enum MockResult {
     Done,
     Refused(MockTransportError),
 }
 
-#[derive(Drop)]
+#[derive(Clone, Copy)]
 pub struct MockAnswer {
     pub result: MockResult,
     // the four bytes of a command's invalid signature, zeros otherwise

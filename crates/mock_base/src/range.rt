@@ -10,20 +10,20 @@ use protocol_bytes::SECTOR_SIZE;
 const MOST_FLASH_SECTORS: usize = 65536;
 
 // How many sectors a flash has.
-#[derive(Drop)]
+#[derive(Clone, Copy)]
 pub enum FlashSectors {
     Whole(usize),
     Refused(MockTransportError),
 }
 
 // Sectors of a flash, all of which it has.
-#[derive(Drop)]
+#[derive(Clone, Copy)]
 pub struct FlashRange {
     pub first: u32,
     pub count: u16,
 }
 
-#[derive(Drop)]
+#[derive(Clone, Copy)]
 pub enum RangeAnswer {
     Within(FlashRange),
     OutOfRange,

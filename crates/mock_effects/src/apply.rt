@@ -6,7 +6,7 @@ ghost use Rattle.protocol_bytes.specs.Sector.{sector_size};
 ghost use Rattle.mock_table.specs.Turn.{EffectFits, reply_size};
 ghost use Rattle.mock_effects.specs.Effects.{erased, programmed, cells_told, flash_after, pending_after, reply_bytes, buffer_after};
 
-use bytes;
+use lent_bytes;
 use mock_base::config::MockDeviceConfig;
 use mock_base::range::FlashRange;
 use mock_table::outcome::{Effect, ReplyKind};
@@ -44,7 +44,7 @@ fn store(range: FlashRange, flash: &mut [u8], data: &[u8])
     ensures { flash.new ≡ over (range.first * sector_size) «data».now flash.old }
 {
     let start = (range.first as usize) * (SECTOR_SIZE as usize);
-    bytes::copy(data, &mut flash[start..]);
+    lent_bytes::copy(data, &mut flash[start..]);
 }
 
 // Whether clearing bits alone makes each byte the one asked.
@@ -90,7 +90,7 @@ fn supply(range: FlashRange, flash: &[u8], data: &mut [u8])
     let size = SECTOR_SIZE as usize;
     let start = (range.first as usize) * size;
     let end = start + (range.count as usize) * size;
-    bytes::copy(&flash[start..end], data);
+    lent_bytes::copy(&flash[start..end], data);
 }
 
 fn reply(config: MockDeviceConfig, sectors: u32, kind: ReplyKind, data: &mut [u8])
@@ -100,23 +100,23 @@ fn reply(config: MockDeviceConfig, sectors: u32, kind: ReplyKind, data: &mut [u8
     match kind {
         ReplyKind::FlashId => {
             let id = config.flash_id;
-            bytes::copy(&id, data);
+            lent_bytes::copy(&id, data);
         }
         ReplyKind::FlashInfo => {
             let info = config.flash_info(sectors);
-            bytes::copy(&info, data);
+            lent_bytes::copy(&info, data);
         }
         ReplyKind::ChipInfo => {
             let info = config.chip_info;
-            bytes::copy(&info, data);
+            lent_bytes::copy(&info, data);
         }
         ReplyKind::Capability => {
             let capability = config.capability;
-            bytes::copy(&capability, data);
+            lent_bytes::copy(&capability, data);
         }
         ReplyKind::Storage => {
             let storage = NOR_STORAGE;
-            bytes::copy(&storage, data);
+            lent_bytes::copy(&storage, data);
         }
         ReplyKind::Status(tag, pending) => {
             let status = CommandStatus {

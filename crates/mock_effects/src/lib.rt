@@ -1,4 +1,7 @@
 // A bulk call over the session alone: the table's outcome, applied.
+
+#![tactic(auto)]
+
 mod apply;
 
 ghost use Rattle.std.specs.Prelude.{◌≡◌};
@@ -15,7 +18,7 @@ use mock_table::session::{CommandState, Session};
 use mock_table::writing::write_outcome;
 use protocol_codes::Status;
 
-#[derive(Drop)]
+#[derive(Clone, Copy)]
 pub struct SessionStep {
     pub answer: MockAnswer,
     pub session: Session,

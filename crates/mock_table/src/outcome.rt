@@ -5,7 +5,7 @@ use mock_base::range::FlashRange;
 use protocol_codes::Status;
 
 // What a read is given that is not the flash's.
-#[derive(Drop)]
+#[derive(Clone, Copy)]
 pub enum ReplyKind {
     FlashId,
     FlashInfo,
@@ -16,7 +16,7 @@ pub enum ReplyKind {
     Status(u32, Status),
 }
 
-#[derive(Drop)]
+#[derive(Clone, Copy)]
 pub enum Effect {
     Nothing,
     // 0xFF
@@ -30,7 +30,7 @@ pub enum Effect {
     Reply(ReplyKind),
 }
 
-#[derive(Drop)]
+#[derive(Clone, Copy)]
 pub struct Outcome {
     pub answer: MockAnswer,
     pub session: Session,

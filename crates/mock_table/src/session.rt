@@ -3,7 +3,7 @@ use protocol::CommandBlock;
 use protocol_codes::{ResetOpcode, Status};
 
 // The transaction.
-#[derive(Drop)]
+#[derive(Clone, Copy)]
 pub enum CommandState {
     // No current command
     None,
@@ -13,13 +13,13 @@ pub enum CommandState {
     Status(CommandBlock, Status),
 }
 
-#[derive(Drop)]
+#[derive(Clone, Copy)]
 pub enum LastReset {
     None,
     Some(ResetOpcode),
 }
 
-#[derive(Drop)]
+#[derive(Clone, Copy)]
 pub struct Session {
     pub current_command: CommandState,
     pub last_reset: LastReset,

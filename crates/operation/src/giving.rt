@@ -6,9 +6,9 @@ ghost use Rattle.operation.specs.Code.{gave};
 ghost use Rattle.operation.specs.Give.{giving_told, GiveMeets, give_of, usb_give};
 
 use crate::steps::{Asked, INBAND, STATUS, UsbOperation, least};
-use bytes;
+use lent_bytes;
 
-#[derive(Drop)]
+#[derive(Clone, Copy)]
 pub enum Giving {
     Taken,
     // 22
@@ -33,7 +33,7 @@ impl Giving {
     }
 }
 
-#[derive(Drop)]
+#[derive(Clone, Copy)]
 pub struct UsbGiven {
     pub answer: Giving,
     pub next: UsbOperation,
@@ -62,7 +62,7 @@ impl UsbOperation {
             return self.gives(Giving::TooMany);
         }
         let mut data = self.data;
-        bytes::copy(bytes, &mut data);
+        lent_bytes::copy(bytes, &mut data);
         self.with_inband(data).gives(Giving::Taken)
     }
 
@@ -76,7 +76,7 @@ impl UsbOperation {
         if data.len() < length {
             return self.gives(Giving::DataDiffers);
         }
-        bytes::copy(bytes, data);
+        lent_bytes::copy(bytes, data);
         let next = self.next;
         self.turned_to(next, Asked::Nothing).gives(Giving::Taken)
     }
@@ -88,7 +88,7 @@ impl UsbOperation {
             return self.gives(Giving::TooMany);
         }
         let mut command_bytes = self.command_bytes;
-        bytes::copy(bytes, &mut command_bytes);
+        lent_bytes::copy(bytes, &mut command_bytes);
         self.with_status(command_bytes).gives(Giving::Taken)
     }
 

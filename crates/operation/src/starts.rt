@@ -12,7 +12,7 @@ use protocol_codes::{ResetOpcode, StorageIndex};
 use protocol_reply::size::{SectorAnswer, sector_count};
 
 // How many sectors the data has, or 23 or 24 with an operation of length 0.
-#[derive(Drop)]
+#[derive(Clone, Copy)]
 pub struct UsbStart {
     pub answer: SectorAnswer,
     pub operation: UsbOperation,

@@ -6,13 +6,13 @@ ghost use Rattle.operation.specs.Record.{fresh, io_of, after_command, turned, wi
 ghost use Rattle.operation.specs.Step.{step_told, StepMeets, command_step, io_step, status_step, finish_step, usb_step};
 ghost use Rattle.operation.specs.Code.{plain, sectored};
 
-use bytes;
+use lent_bytes;
 use operation_finish::{Beside, FinishAnswer, Kind, finish_of};
 use protocol::CommandBlock;
 use protocol_bytes::output::Written;
 
 // Where an operation stands: what its next step does.
-#[derive(Drop)]
+#[derive(Clone, Copy)]
 pub enum Operation {
     CommandBlock,
     IO,
@@ -21,7 +21,7 @@ pub enum Operation {
 }
 
 // Where the data of an operation is.
-#[derive(Drop)]
+#[derive(Clone, Copy)]
 pub enum IOBytes {
     Inband,
     Read,
@@ -29,7 +29,7 @@ pub enum IOBytes {
 }
 
 // What the last step asked to be read and nothing was given for yet.
-#[derive(Drop)]
+#[derive(Clone, Copy)]
 pub enum Asked {
     Nothing,
     Inband,
@@ -39,7 +39,7 @@ pub enum Asked {
 
 // `command_bytes` are the first 13 bytes of the command once it is out: the status is read over them. `data` are the in-band bytes, which stay from
 // round to round.
-#[derive(Drop)]
+#[derive(Clone, Copy)]
 pub struct UsbOperation {
     pub kind: Kind,
     pub command: CommandBlock,
@@ -49,7 +49,7 @@ pub struct UsbOperation {
     pub asked: Asked,
 }
 
-#[derive(Drop)]
+#[derive(Clone, Copy)]
 pub enum UsbStep {
     // Write the first 31 bytes of the output.
     WriteCommand,
@@ -84,7 +84,7 @@ impl UsbStep {
     }
 }
 
-#[derive(Drop)]
+#[derive(Clone, Copy)]
 pub struct UsbStepped {
     pub step: UsbStep,
     pub beside: Beside,
@@ -132,7 +132,7 @@ fn zero_tail(out: &mut [u8]) -> usize
     ensures { out.new ≡ take 24 out.old ++ (replicate 7 0 ++ drop 31 out.old) }
 {
     let zeros = [0u8; 7];
-    bytes::copy(&zeros, &mut out[24..])
+    lent_bytes::copy(&zeros, &mut out[24..])
 }
 
 fn first_13(out: &[u8]) -> [u8; 13]
@@ -140,7 +140,7 @@ fn first_13(out: &[u8]) -> [u8; 13]
     ensures { result ≡ take 13 out.now }
 {
     let mut first = [0u8; 13];
-    bytes::copy(&out[..13], &mut first);
+    lent_bytes::copy(&out[..13], &mut first);
     first
 }
 

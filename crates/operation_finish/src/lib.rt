@@ -1,4 +1,7 @@
 // How an operation ends: its status is read, then its answer is made.
+
+#![tactic(auto)]
+
 ghost use Rattle.std.specs.Prelude.{◌≡◌, ◌≤◌, length, take};
 ghost use Rattle.promise.specs.Told.{number};
 ghost use Rattle.protocol_bytes.specs.Signature.{no_signature};
@@ -7,7 +10,7 @@ ghost use Rattle.operation_finish.specs.Reply.{finish_told, no_chip_info, no_fla
 ghost use Rattle.operation_finish.specs.Code.{failed_with, replied_with};
 ghost use Rattle.operation_finish.specs.Finish.{storage_reply, sector_reply, reply_of, finishes};
 
-use bytes;
+use lent_bytes;
 use protocol_codes::{Status, StorageIndex};
 use protocol_reply::flags::Capability;
 use protocol_reply::info::{ChipInfo, FlashId, FlashInfo};
@@ -17,7 +20,7 @@ use protocol_status::failure::UsbOperationError;
 use protocol_status::report::{CommandStatus, StatusAnswer};
 
 // What an operation ends with: one for each kind of reply, and the two over sectors.
-#[derive(Drop)]
+#[derive(Clone, Copy)]
 pub enum Kind {
     ChipInfo,
     FlashId,
@@ -30,21 +33,21 @@ pub enum Kind {
 }
 
 // Fewer bytes were moved than the command asked for.
-#[derive(Drop)]
+#[derive(Clone, Copy)]
 pub struct ShortTransfer {
     pub moved: Transferred,
     pub asked: Transferred,
 }
 
 // What became of the data of a sector operation: all of it was moved, or fewer bytes than asked.
-#[derive(Drop)]
+#[derive(Clone, Copy)]
 pub enum SectorTransfer {
     Whole(Transferred),
     Short(ShortTransfer),
 }
 
 // A reply. Where its wrapper holds an array, it stands beside.
-#[derive(Drop)]
+#[derive(Clone, Copy)]
 pub enum UsbReply {
     ChipInfo,
     FlashId,
@@ -55,7 +58,7 @@ pub enum UsbReply {
     Sectors(SectorTransfer),
 }
 
-#[derive(Drop)]
+#[derive(Clone, Copy)]
 pub enum FinishAnswer {
     Replied(UsbReply),
     Failed(UsbOperationError),
@@ -74,7 +77,7 @@ impl FinishAnswer {
 }
 
 // What no enum can hold. Each is zeros where it is not the answer.
-#[derive(Drop)]
+#[derive(Clone, Copy)]
 pub struct Beside {
     pub signature: [u8; 4],
     pub chip_info: ChipInfo,
@@ -83,7 +86,7 @@ pub struct Beside {
     pub capability: Capability,
 }
 
-#[derive(Drop)]
+#[derive(Clone, Copy)]
 pub struct Finished {
     pub answer: FinishAnswer,
     pub beside: Beside,
@@ -134,7 +137,7 @@ fn first_of(inband: [u8; 16], out: &mut [u8]) -> usize
     ensures { out.new ≡ take (length out.old) inband }
 {
     let n = out.len();
-    bytes::copy(&inband[..n], out)
+    lent_bytes::copy(&inband[..n], out)
 }
 
 fn chip_info_of(inband: [u8; 16]) -> Finished

@@ -1,4 +1,7 @@
 // The command block: what our operations ask, written into 31 bytes and read back.
+
+#![tactic(auto)]
+
 ghost use Rattle.std.specs.Prelude.{◌≡◌, List, ℕ, ◌≤◌, length};
 ghost use Rattle.protocol.specs.Commands.{reply_command, opcode_command, sector_command, flash_id_command, flash_info_command, capability_command, chip_info_command, storage_command, erase_lba_command, erase_force_command, read_lba_command, write_lba_command, reset_command, switch_command};
 ghost use Rattle.protocol.specs.CommandBytes.{BlockFits, command_bytes, block_of, read_command, write_command};
@@ -7,7 +10,7 @@ ghost use Rattle.protocol.specs.Code.{parsed};
 ghost use Rattle.promise.specs.Told.{number};
 ghost use Rattle.protocol_bytes.specs.Writing.{WriteMeets};
 
-use bytes;
+use lent_bytes;
 use protocol_bytes::SECTOR_SIZE;
 use protocol_bytes::order::{
     u16_from_be_bytes, u16_to_be_bytes, u32_from_be_bytes, u32_from_le_bytes, u32_to_be_bytes,
@@ -28,7 +31,7 @@ const SHORT_CDB: u8 = 0x6;
 
 const LONG_CDB: u8 = 0xa;
 
-#[derive(Drop)]
+#[derive(Clone, Copy)]
 pub struct CommandBlock {
     pub tag: u32,
     pub transfer_length: u32,
@@ -42,7 +45,7 @@ pub struct CommandBlock {
 }
 
 // Why bytes are no command block. The signature's bytes stand beside it.
-#[derive(Drop)]
+#[derive(Clone, Copy)]
 pub enum CommandBlockParseError {
     InvalidSignature,
     UnknownCommandCode(u8),
@@ -64,7 +67,7 @@ impl CommandBlockParseError {
     }
 }
 
-#[derive(Drop)]
+#[derive(Clone, Copy)]
 pub enum CommandAnswer {
     Block(CommandBlock),
     Refused(CommandBlockParseError),
@@ -82,7 +85,7 @@ impl CommandAnswer {
     }
 }
 
-#[derive(Drop)]
+#[derive(Clone, Copy)]
 pub struct CommandParse {
     pub answer: CommandAnswer,
     // the four bytes of an invalid signature, zeros otherwise
@@ -353,7 +356,7 @@ impl CommandBlock {
             return Written::TooShort;
         }
         let block = self.bytes();
-        bytes::copy(&block, out);
+        lent_bytes::copy(&block, out);
         Written::Bytes(COMMAND_BLOCK_BYTES)
     }
 

@@ -1,4 +1,7 @@
 // What the blocks of the protocol share: byte order, a signature compared, and what a writer answers.
+
+#![tactic(auto)]
+
 pub mod order;
 pub mod output;
 pub mod signature;

@@ -3,7 +3,7 @@ ghost use Rattle.std.specs.Prelude.{◌≡◌};
 ghost use Rattle.promise.specs.Told.{number};
 ghost use Rattle.protocol_bytes.specs.Writing.{written_told};
 
-#[derive(Drop)]
+#[derive(Clone, Copy)]
 pub enum Written {
     // how many bytes the block has
     Bytes(usize),

@@ -1,19 +1,22 @@
 // The enums of the protocol that have a number: each is written as its number, and a number is read as the value whose number it is.
 // The names are the Rust's.
+
+#![tactic(auto)]
+
 ghost use Rattle.std.specs.Prelude.{◌≡◌};
 ghost use Rattle.promise.specs.Told as told;
 ghost use Rattle.protocol_codes.specs.Numbers.{code_number, direction_number, status_number, reset_number, storage_number};
 ghost use Rattle.protocol_codes.specs.Reading.{code_of, code_read_told, direction_of, direction_read_told, status_of, status_read_told, reset_of, reset_read_told, storage_of};
 
 // Which way the data of a command goes, seen from the host.
-#[derive(Drop)]
+#[derive(Clone, Copy)]
 pub enum Direction {
     In,
     Out,
 }
 
 // A flags byte read: 3 with the byte where it is no direction.
-#[derive(Drop)]
+#[derive(Clone, Copy)]
 pub enum DirectionRead {
     Known(Direction),
     Unknown(u8),
@@ -53,7 +56,7 @@ impl Direction {
 }
 
 // What a command asks the device to do.
-#[derive(Drop)]
+#[derive(Clone, Copy)]
 pub enum CommandCode {
     TestUnitReady,
     ReadFlashId,
@@ -85,7 +88,7 @@ pub enum CommandCode {
 }
 
 // A code byte read: 4 with the byte where it is not listed.
-#[derive(Drop)]
+#[derive(Clone, Copy)]
 pub enum CodeRead {
     Known(CommandCode),
     Unknown(u8),
@@ -175,14 +178,14 @@ impl CommandCode {
 }
 
 // How the device says that a command went.
-#[derive(Drop)]
+#[derive(Clone, Copy)]
 pub enum Status {
     SUCCESS,
     FAILED,
 }
 
 // A status byte read: 7 with the byte where it is above 1.
-#[derive(Drop)]
+#[derive(Clone, Copy)]
 pub enum StatusRead {
     Known(Status),
     Unknown(u8),
@@ -222,7 +225,7 @@ impl Status {
 }
 
 // What the device becomes after a reset.
-#[derive(Drop)]
+#[derive(Clone, Copy)]
 pub enum ResetOpcode {
     Reset,
     MSC,
@@ -232,7 +235,7 @@ pub enum ResetOpcode {
 }
 
 // A reset's opcode read: 52 with the byte where it is above 4.
-#[derive(Drop)]
+#[derive(Clone, Copy)]
 pub enum ResetRead {
     Known(ResetOpcode),
     Unknown(u8),
@@ -278,7 +281,7 @@ impl ResetOpcode {
 }
 
 // A storage medium by its place among the boot types: every byte is one, by name or by its number.
-#[derive(Drop)]
+#[derive(Clone, Copy)]
 pub enum StorageIndex {
     Nand,
     Emmc,

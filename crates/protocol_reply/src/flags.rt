@@ -21,7 +21,7 @@ const NEW_IDB: u8 = 0x01;
 
 const SWITCH_STORAGE: u8 = 0x02;
 
-#[derive(Drop)]
+#[derive(Clone, Copy)]
 pub struct Capability(pub [u8; 8]);
 
 impl Capability {

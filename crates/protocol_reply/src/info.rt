@@ -5,7 +5,7 @@ ghost use Rattle.protocol_reply.specs.Info.{info_sectors, flash_size, block_size
 use protocol_bytes::SECTOR_SIZE;
 use protocol_bytes::order::{u16_from_le_bytes, u32_from_le_bytes};
 
-#[derive(Drop)]
+#[derive(Clone, Copy)]
 pub struct ChipInfo(pub [u8; 16]);
 
 impl ChipInfo {
@@ -23,7 +23,7 @@ impl ChipInfo {
     }
 }
 
-#[derive(Drop)]
+#[derive(Clone, Copy)]
 pub struct FlashId(pub [u8; 5]);
 
 impl FlashId {
@@ -41,7 +41,7 @@ impl FlashId {
     }
 }
 
-#[derive(Drop)]
+#[derive(Clone, Copy)]
 pub struct FlashInfo(pub [u8; 11]);
 
 impl FlashInfo {

@@ -6,7 +6,7 @@ ghost use Rattle.protocol_reply.specs.Media.{storage_told, read_storage};
 use protocol_bytes::order::u32_from_le_bytes;
 use protocol_codes::StorageIndex;
 
-#[derive(Drop)]
+#[derive(Clone, Copy)]
 pub enum StorageAnswer {
     Index(StorageIndex),
     // 14: not exactly one bit set

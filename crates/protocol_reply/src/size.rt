@@ -6,14 +6,14 @@ ghost use Rattle.protocol_reply.specs.Sectors.{sector_told, sectors_in};
 use protocol_bytes::SECTOR_SIZE;
 
 // Bytes transferred.
-#[derive(Drop)]
+#[derive(Clone, Copy)]
 pub struct Transferred(pub u32);
 
 // Sectors of a command.
-#[derive(Drop)]
+#[derive(Clone, Copy)]
 pub struct SectorCount(pub u16);
 
-#[derive(Drop)]
+#[derive(Clone, Copy)]
 pub enum SectorAnswer {
     Count(SectorCount),
     // 23: not a multiple of 512

@@ -5,7 +5,7 @@ ghost use Rattle.protocol_status.specs.StatusMeets.{status_error_told};
 
 use super::report::CommandStatusParseError;
 
-#[derive(Drop)]
+#[derive(Clone, Copy)]
 pub enum UsbOperationError {
     TagMismatch,
     InvalidStatusSignature,

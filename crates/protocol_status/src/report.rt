@@ -6,7 +6,7 @@ ghost use Rattle.protocol_status.specs.Code.{parsed};
 ghost use Rattle.promise.specs.Told.{number};
 ghost use Rattle.protocol_bytes.specs.Writing.{WriteMeets};
 
-use bytes;
+use lent_bytes;
 use protocol_bytes::order::{
     u32_from_be_bytes, u32_from_le_bytes, u32_to_be_bytes, u32_to_le_bytes,
 };
@@ -20,7 +20,7 @@ pub const COMMAND_STATUS_BYTES: usize = 13;
 // USBS
 const SIGNATURE: [u8; 4] = [0x55, 0x53, 0x42, 0x53];
 
-#[derive(Drop)]
+#[derive(Clone, Copy)]
 pub struct CommandStatus {
     pub tag: u32,
     pub residue: u32,
@@ -28,7 +28,7 @@ pub struct CommandStatus {
 }
 
 // Why bytes are no status block. The signature's bytes stand beside it.
-#[derive(Drop)]
+#[derive(Clone, Copy)]
 pub enum CommandStatusParseError {
     InvalidSignature,
     InvalidLength(usize),
@@ -48,7 +48,7 @@ impl CommandStatusParseError {
     }
 }
 
-#[derive(Drop)]
+#[derive(Clone, Copy)]
 pub enum StatusAnswer {
     Block(CommandStatus),
     Refused(CommandStatusParseError),
@@ -66,7 +66,7 @@ impl StatusAnswer {
     }
 }
 
-#[derive(Drop)]
+#[derive(Clone, Copy)]
 pub struct StatusParse {
     pub answer: StatusAnswer,
     // the four bytes of an invalid signature, zeros otherwise
@@ -127,7 +127,7 @@ impl CommandStatus {
             return Written::TooShort;
         }
         let block = self.bytes();
-        bytes::copy(&block, out);
+        lent_bytes::copy(&block, out);
         Written::Bytes(COMMAND_STATUS_BYTES)
     }
 

@@ -1,4 +1,7 @@
 // Rechecks the old deck on standard input: the same deck, with the checks of today, on standard output.
+
+#![tactic(auto)]
+
 use deck_io::complaint::{complain, complain_of};
 use deck_io::input::{Input, fill, usable_bytes};
 use deck_io::output::write_out;
@@ -6,7 +9,7 @@ use deck_io::within;
 use deck_recheck::{Recheck, RecheckStep, Stop};
 
 // The deck after a chunk, and whether there may be more of it.
-#[derive(Drop)]
+#[derive(Clone, Copy)]
 struct Turn {
     recheck: Recheck,
     goes_on: bool,

@@ -2,6 +2,9 @@
 // program tells.
 //
 // Test support: its functions promise only that they are safe and end.
+
+#![tactic(auto)]
+
 pub mod out;
 pub mod refusals;
 pub mod told;

@@ -3,7 +3,7 @@
 // No number of the rules: the line is not of the language, or about a thing that is not there.
 pub const OUTSIDE: u64 = 1000;
 
-#[derive(Drop)]
+#[derive(Clone, Copy)]
 pub struct Told {
     pub number: u64,
     pub count: usize,
@@ -86,7 +86,7 @@ pub fn finish(told: Told) -> Told {
 }
 
 // Bytes that stand behind the values.
-#[derive(Drop)]
+#[derive(Clone, Copy)]
 pub enum Tail {
     Nothing,
     // the first bytes of `small`
@@ -99,7 +99,7 @@ pub enum Tail {
     Own(usize),
 }
 
-#[derive(Drop)]
+#[derive(Clone, Copy)]
 pub struct Answer {
     pub told: Told,
     pub tail: Tail,

@@ -37,7 +37,7 @@ pub fn storage(index: StorageIndex) -> Told {
     }
 }
 
-#[derive(Drop)]
+#[derive(Clone, Copy)]
 pub enum IndexRead {
     Known(StorageIndex),
     Nothing,

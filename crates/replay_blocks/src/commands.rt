@@ -6,7 +6,7 @@ use replay_lines::asked::Asked;
 use replay_lines::line::{as_u8, as_u16, as_u32};
 use replay_lines::names::{CAP, CHP, ERA, ERF, FID, FIN, RDL, RST, STO, SWI, WRL};
 
-#[derive(Drop)]
+#[derive(Clone, Copy)]
 pub(crate) enum Built {
     Block(CommandBlock),
     Nothing,

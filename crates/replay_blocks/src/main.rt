@@ -1,5 +1,8 @@
 // Answers the kinds `blocks`, `status` and `replies` of the language of cases (differential/LANGUAGE.md): a line in, a line out. No call of theirs is
 // about a thing that stays.
+
+#![tactic(auto)]
+
 mod blocks;
 mod commands;
 

@@ -1,4 +1,7 @@
 // Answers the kind `decks` of the language of cases (differential/LANGUAGE.md): a line in, a line out.
+
+#![tactic(auto)]
+
 mod printed;
 
 use deck::bench::{Bench, DeckStep};
@@ -15,7 +18,7 @@ const BLOCK: usize = 512;
 
 // The place in the output, whether the deck takes another block, whether the line at hand has an answer, and the bench with what its last block
 // came to.
-#[derive(Drop)]
+#[derive(Clone, Copy)]
 struct World {
     at: usize,
     is_open: bool,

@@ -15,7 +15,7 @@ use replay_lines::line::{after, as_u8, as_u16};
 use replay_lines::names::{ARE, BRD, BWR, CTL, DVC, DVD, DVN};
 
 // The current device: whether there is one, its record, and the lengths of its flash and store, which stand in buffers of their own.
-#[derive(Drop)]
+#[derive(Clone, Copy)]
 pub struct Device {
     pub is_there: bool,
     pub state: MockState,
@@ -23,7 +23,7 @@ pub struct Device {
     pub store: usize,
 }
 
-#[derive(Drop)]
+#[derive(Clone, Copy)]
 pub struct Stood {
     pub answer: Answer,
     pub device: Device,

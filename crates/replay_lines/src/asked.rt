@@ -26,7 +26,7 @@ pub const FLASH: usize = 34;
 
 // The call, OUTLEN and FILL, the operation, up to four numbers, the place behind them, how many bytes of DATA there are, and whether all of
 // the line was of the language. A thing that the call does not have is 0.
-#[derive(Drop)]
+#[derive(Clone, Copy)]
 pub struct Asked {
     pub call: u64,
     pub room: usize,
@@ -42,7 +42,7 @@ pub struct Asked {
 }
 
 // The most of each of the numbers, and of DATA: 0 where there is none to read.
-#[derive(Drop)]
+#[derive(Clone, Copy)]
 struct Wanted(u64, u64, u64, u64, u64);
 
 fn of_call(call: u64) -> Wanted {

@@ -3,7 +3,7 @@ use crate::buffer::{put, within};
 use libc::STDIN_FILENO;
 
 // What is left of the block that was read last, how much of the line is held, and whether the line is whole or the input over.
-#[derive(Drop)]
+#[derive(Clone, Copy)]
 pub struct Input {
     at: usize,
     end: usize,

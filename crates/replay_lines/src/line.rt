@@ -1,7 +1,7 @@
 // Reading a line of the language, token by token. A token read is its value, the place after it, and whether the line was of
 // the language so far: once it was not it stays so, and the line is answered `outside`. No reader asks anything of its caller.
 
-#[derive(Drop)]
+#[derive(Clone, Copy)]
 pub struct Token {
     pub value: u64,
     pub at: usize,

@@ -30,7 +30,7 @@ pub(crate) const DAT: u64 = 0x646174;
 pub(crate) const NONE: u64 = 0;
 
 // The call, up to two numbers, and how many bytes of DATA there are. A thing that the call does not have is 0.
-#[derive(Drop)]
+#[derive(Clone, Copy)]
 pub(crate) struct Asked {
     pub(crate) call: u64,
     pub(crate) a: u64,
@@ -39,7 +39,7 @@ pub(crate) struct Asked {
 }
 
 // The most of each of the numbers, and of DATA: 0 where there is none to read.
-#[derive(Drop)]
+#[derive(Clone, Copy)]
 struct Wanted(u64, u64, u64);
 
 fn wanted_by(call: u64) -> Wanted {

@@ -1,5 +1,8 @@
 // Answers the kind `loader` of the language of cases (differential/LANGUAGE.md): a line in, a line out. What stays from line to line is the current
 // file.
+
+#![tactic(auto)]
+
 mod asked;
 
 use asked::{Asked, DAT, ENT, EXA, FIL, HDR, LIS, NXT, PUT, TIM, WLK, ask};
@@ -21,7 +24,7 @@ use replay_records::{shown, told, walked};
 const NO_TAG: [u8; 4] = [0, 0, 0, 0];
 
 // The place in the output, and the current file's length.
-#[derive(Drop)]
+#[derive(Clone, Copy)]
 struct World {
     at: usize,
     len: usize,

@@ -9,7 +9,7 @@ use replay_lines::line::as_u32;
 // three lists of 255 entries, and the step behind them
 const LONGEST: usize = 766;
 
-#[derive(Drop)]
+#[derive(Clone, Copy)]
 struct Walked {
     found: u32,
     digest: u32,

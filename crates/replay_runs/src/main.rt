@@ -1,4 +1,7 @@
 // Answers the kinds `operations`, `device`, `runs` and `nor` of the language of cases (differential/LANGUAGE.md): a line in, a line out.
+
+#![tactic(auto)]
+
 mod names;
 
 use names::{has_device, has_own, has_steps};

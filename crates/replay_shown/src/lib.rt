@@ -1,6 +1,9 @@
 // The sections of a device in an answer of the language of cases: its flash, its areas and its last reset.
 //
 // Test support: its functions promise only that they are safe and end.
+
+#![tactic(auto)]
+
 use mock::device::MockState;
 use mock_areas::{Area, AreaFound, Areas};
 use mock_table::session::LastReset;

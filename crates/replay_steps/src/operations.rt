@@ -18,14 +18,14 @@ use replay_lines::line::{as_u8, as_u16, as_u32};
 use replay_lines::names::{CAP, CHP, ERA, ERF, FID, FIN, OPN, RDL, RST, STO, STP, SWI, WRL};
 
 // The current operation: whether there is one, its record, and the length of the caller's data, which stands in a buffer of its own.
-#[derive(Drop)]
+#[derive(Clone, Copy)]
 pub struct Current {
     pub is_there: bool,
     pub record: UsbOperation,
     pub length: usize,
 }
 
-#[derive(Drop)]
+#[derive(Clone, Copy)]
 pub struct Operated {
     pub answer: Answer,
     pub current: Current,

@@ -8,14 +8,14 @@ use replay_lines::line::{as_u16, number};
 use replay_lines::names::UPL;
 
 // The current upload: whether there is one, its record, and the length of its image, which stands in a buffer of its own.
-#[derive(Drop)]
+#[derive(Clone, Copy)]
 pub struct Upload {
     pub is_there: bool,
     pub record: WholeUpload,
     pub length: usize,
 }
 
-#[derive(Drop)]
+#[derive(Clone, Copy)]
 pub struct Uploaded {
     pub answer: Answer,
     pub upload: Upload,

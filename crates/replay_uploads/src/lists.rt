@@ -12,7 +12,7 @@ use replay_lines::line::{Token, as_u16, number};
 const TURNS: u64 = 1000000000;
 
 // A list of transfers: how many, where its text ends, and the number of the first refusal, 0 where nothing was refused.
-#[derive(Drop)]
+#[derive(Clone, Copy)]
 struct List {
     count: u64,
     at: usize,
@@ -64,7 +64,7 @@ fn listed(text: &mut [u8], list: List, step: UploadStep, bytes: &[u8]) -> List {
     }
 }
 
-#[derive(Drop)]
+#[derive(Clone, Copy)]
 struct Whole {
     record: WholeUpload,
     list: List,
@@ -117,7 +117,7 @@ pub(crate) fn all(asked: Asked, bytes: &[u8], text: &mut [u8]) -> Answer {
 
 // A part-wise upload on its way: its record and list, how much of the image was taken, where the part at hand ends and whether it
 // was not handed over yet, how many parts of this pass were, and the place in the line after the last one.
-#[derive(Drop)]
+#[derive(Clone, Copy)]
 struct Cut {
     record: MaskRomOperation,
     list: List,

@@ -1,4 +1,7 @@
 // Answers the kinds `uploads` and `large` of the language of cases (differential/LANGUAGE.md): a line in, a line out.
+
+#![tactic(auto)]
+
 mod lists;
 
 use replay_answers::out::{flush, line_with_room};
@@ -11,7 +14,7 @@ use replay_lines::names::{ALL, CUT, UPL, UST};
 use replay_steps::uploads::{Upload, Uploaded, no_upload, with_answer};
 
 // The current upload and the place in the output.
-#[derive(Drop)]
+#[derive(Clone, Copy)]
 struct World {
     at: usize,
     upload: Upload,

@@ -10,7 +10,7 @@ use replay_lines::names::{
 use replay_steps::{operations, uploads};
 
 // The thing that a call is about.
-#[derive(Drop)]
+#[derive(Clone, Copy)]
 enum About {
     Operation,
     Device,

@@ -2,6 +2,9 @@
 // among them.
 //
 // Test support: its functions promise only that they are safe and end.
+
+#![tactic(auto)]
+
 pub mod calls;
 pub mod runs;
 pub mod world;

@@ -7,7 +7,7 @@ use replay_steps::uploads::Upload;
 use replay_steps::{operations, uploads};
 
 // The things that stay from line to line, beside their buffers, what the line at hand is told, and the place in the output.
-#[derive(Drop)]
+#[derive(Clone, Copy)]
 pub struct World {
     pub answer: Answer,
     pub at: usize,

@@ -1,4 +1,7 @@
 // Budgeted runs of an operation against the stand-in device.
+
+#![tactic(auto)]
+
 ghost use Rattle.std.specs.Prelude.{◌≡◌, List, [], ℕ, length};
 ghost use Rattle.promise.specs.Told.{number};
 ghost use Rattle.promise.specs.Rules.{pick};
@@ -19,7 +22,7 @@ use run_turn::{Stop, Turn, is_write, take_turn};
 // Command, data, status and finish.
 const WHOLE_BUDGET: u32 = 4;
 
-#[derive(Drop)]
+#[derive(Clone, Copy)]
 pub enum RunAnswer {
     Ended(Stop),
     // 28
@@ -40,7 +43,7 @@ impl RunAnswer {
 
 // `beside` has what no enum can hold: a reply's bytes, or the signature of 11 or 56. `operation` and `device` are as the last step left them, `steps`
 // counts the run's own step calls.
-#[derive(Drop)]
+#[derive(Clone, Copy)]
 pub struct UsbRun {
     pub answer: RunAnswer,
     pub beside: Beside,

@@ -1,4 +1,7 @@
 // One turn of a run: a step of an operation and the transfer that it asks for, at the stand-in device.
+
+#![tactic(auto)]
+
 ghost use Rattle.std.specs.Prelude.{◌≡◌, List, [], ℕ, ◌≤◌, length, take, replicate};
 ghost use Rattle.promise.specs.Told.{Told, number};
 ghost use Rattle.mock_base.specs.Told.{Answers};
@@ -17,7 +20,7 @@ use operation::steps::{UsbOperation, UsbStep, UsbStepped};
 use operation_finish::{Beside, FinishAnswer, Kind};
 
 // What a run stops with before its budget is used.
-#[derive(Drop)]
+#[derive(Clone, Copy)]
 pub enum Stop {
     // the operation's value, or 10 to 15
     Finished(FinishAnswer),
@@ -44,13 +47,13 @@ impl Stop {
 }
 
 // What one step and its transfer come to.
-#[derive(Drop)]
+#[derive(Clone, Copy)]
 pub enum Turn {
     Goes,
     Ends(Stop),
 }
 
-#[derive(Drop)]
+#[derive(Clone, Copy)]
 pub struct UsbTurned {
     pub turn: Turn,
     pub beside: Beside,

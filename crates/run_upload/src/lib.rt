@@ -1,4 +1,7 @@
 // A whole upload run against the stand-in, with a budget of steps.
+
+#![tactic(auto)]
+
 ghost use Rattle.std.specs.Prelude.{◌≡◌, ◌≤◌, length, take};
 ghost use Rattle.promise.specs.Told.{number};
 ghost use Rattle.promise.specs.Run.{end_told, runs};
@@ -13,7 +16,7 @@ use mock_base::error::{MockResult, MockTransportError};
 use mock_base::range::{FlashSectors, flash_sectors};
 
 // What a run stops with.
-#[derive(Drop)]
+#[derive(Clone, Copy)]
 pub enum LoadStop {
     Finished,
     // 51, 58 to 61, 65
@@ -39,20 +42,20 @@ impl LoadStop {
 }
 
 // What one step and its transfer come to.
-#[derive(Drop)]
+#[derive(Clone, Copy)]
 pub enum LoadTurn {
     Goes,
     Ends(LoadStop),
 }
 
-#[derive(Drop)]
+#[derive(Clone, Copy)]
 pub struct LoadTurned {
     pub turn: LoadTurn,
     pub upload: WholeUpload,
     pub device: MockState,
 }
 
-#[derive(Drop)]
+#[derive(Clone, Copy)]
 pub enum LoadAnswer {
     Ended(LoadStop),
     // 28
@@ -71,7 +74,7 @@ impl LoadAnswer {
     }
 }
 
-#[derive(Drop)]
+#[derive(Clone, Copy)]
 pub struct LoadRun {
     pub answer: LoadAnswer,
     pub steps: u32,

@@ -1,5 +1,8 @@
 // Decks converted over `deck_convert`: standard input is two blocks for the tags 2^32 - 1 and 0, and then a deck of 18 blocks and a part of the next; each
 // case begins with it as it was.
+
+#![tactic(auto)]
+
 use deck_convert::Convert;
 use deck_io::complaint::say_of;
 use deck_io::within;

@@ -1,5 +1,8 @@
 // The check over messages whose values were computed by something other than this code (README.md beside says how):
 // a line of length and check for each.
+
+#![tactic(auto)]
+
 use libc::STDOUT_FILENO;
 
 const LENGTHS: [usize; 8] = [1, 2, 255, 256, 257, 4095, 4096, 4097];

@@ -1,4 +1,7 @@
 // Decks that end at each edge of a chunk, dealt over `deck_chunk`: standard input is the longest of them, and the others are its first bytes.
+
+#![tactic(auto)]
+
 ghost use Rattle.io.specs.Counts.{IsPrefixLen};
 
 use deck::bench::{Bench, BenchStart};

@@ -1,4 +1,7 @@
 // Loader files listed over `loader_text`: standard input is a good one, and each case puts other bytes at a place of it and takes its first ones.
+
+#![tactic(auto)]
+
 use deck_io::complaint::say_of;
 use deck_io::within;
 use libc::{STDIN_FILENO, STDOUT_FILENO};
@@ -35,7 +38,7 @@ fn list_first(file: &[u8], count: usize) {
 
 fn put(rest: &mut [u8], new: &[u8]) {
     if new.len() <= rest.len() {
-        bytes::copy(new, rest);
+        lent_bytes::copy(new, rest);
     }
 }
 

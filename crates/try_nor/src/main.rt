@@ -1,5 +1,8 @@
 // Shows in words how a head with NOR flash answers: a line in is one call, run as one whole operation against the one head, and a line out says how
 // it ended. README.md beside says what the lines are and how the stored ones were worked out.
+
+#![tactic(auto)]
+
 use libc::STDOUT_FILENO;
 use mock::config::MockDeviceConfig;
 use mock::device::{MockState, MockStep};
@@ -49,7 +52,7 @@ const LONGEST: usize = 128;
 
 // What a line says, and the tag of its operation. Of `head` first and count are the sectors and the block size, of `switch` first is the number, and
 // the byte is of `write` alone.
-#[derive(Drop)]
+#[derive(Clone, Copy)]
 struct Asked {
     tag: u32,
     call: u64,
@@ -59,7 +62,7 @@ struct Asked {
 }
 
 // The most of the two numbers of a call: 0 where there is none to read.
-#[derive(Drop)]
+#[derive(Clone, Copy)]
 struct Wanted(u64, u64);
 
 fn print(text: &[u8]) {

@@ -1,4 +1,7 @@
 // Old decks rechecked over `deck_recheck`: standard input is one of 18 blocks and a part of the next, and each case begins with it as it was.
+
+#![tactic(auto)]
+
 use deck_io::complaint::say_of;
 use deck_io::within;
 use deck_recheck::{Recheck, RecheckStep, Stop};

@@ -1,5 +1,8 @@
 // One session of the stand-in, lent from call to call: a start, a write, a read, an erase, a reset and a refusal, then a start that is refused and one
 // that is not. A line for each call and one for the record after each command; README.md beside says how the expected lines were worked out.
+
+#![tactic(auto)]
+
 ghost use Rattle.std.specs.Prelude.{◌≡◌, [], length};
 ghost use Rattle.mock_effects.specs.Steps.{StepMeets, write_step, read_step};
 ghost use Rattle.mock_session.specs.Start.{start_step};

@@ -1,5 +1,8 @@
 // Tells in words how a sector write ended: a line in has the tag, the bytes asked and the status that came from a head, a line out says how much was
 // moved. README.md beside says what the lines are and how the stored ones were worked out.
+
+#![tactic(auto)]
+
 use libc::STDOUT_FILENO;
 use operation::starts::write_lba;
 use operation::steps::{UsbOperation, UsbStep};
@@ -25,7 +28,7 @@ const OUT_OF_STEPS: u8 = 28;
 const LONGEST: usize = 127;
 
 // What a line says: the tag, the bytes asked, how many bytes of status came, and whether it could be read.
-#[derive(Drop)]
+#[derive(Clone, Copy)]
 struct Asked {
     tag: u32,
     size: usize,
@@ -34,7 +37,7 @@ struct Asked {
 }
 
 // A step of an operation, and the operation after it.
-#[derive(Drop)]
+#[derive(Clone, Copy)]
 struct Turned {
     step: UsbStep,
     next: UsbOperation,

@@ -12,8 +12,8 @@ use lib.Seq.{get_or-take}
 use Rattle.protocol_bytes.specs.Signature.{same}
 use Rattle.protocol_bytes.proofs.Short.{field_elements, all_elements}
 use Rattle.protocol_bytes.proofs.Same.{same_differs, pick_itself}
-use Rattle.protocol_bytes.proofs.signature.starts_with.Statement.{statement}
-use Rattle.protocol_bytes.proofs.signature.starts_with.Tie as tie
+use Rattle.protocol_bytes.proofs.signature.starts_with.Goals as goal
+use Rattle.protocol_bytes.proofs.signature.starts_with.Goals.{Start}
 
 differs_at : (i : ℕ) (bytes signature : List ℕ) → i < 4 → (get_or bytes i 0 ≡ get_or signature i 0 → ⊥) → false ≡ same (take 4 bytes) signature
 differs_at i bytes signature h d =
@@ -28,37 +28,27 @@ decides bytes signature long four e₀ e₁ e₂ =
     (ap₂ same (field_elements 4 0 bytes long) (all_elements 4 signature four)
     ∙ rw (eq-eqb _ _ e₀, eq-eqb _ _ e₁, eq-eqb _ _ e₂) (pick_itself (eqb (get_or bytes 3 0) (get_or signature 3 0))))
 
-four-long : (s : tie.Start) → length s.args.t2 ≡ 4
+four-long : (s : Start) → length s.args.signature ≡ 4
 four-long s = search rules
 
-short : tie.Need-returns
-short c =
-    let a = c.before.args in
-    let few : length a.bytes.now < 4 = c.if1.true in
-    sym (same_differs (take 4 a.bytes.now) a.t2 (λ e. omega (arith, ap length e, length-take 4 a.bytes.now, four-long c.before)))
+pub returns-then-bytes-lt4 : goal.returns-then-bytes-lt4
+returns-then-bytes-lt4 c =
+    let a = c.args in
+    let few : length a.bytes.now < 4 = c.if-bytes-lt4.true in
+    sym (same_differs (take 4 a.bytes.now) a.signature (λ e. omega (arith, ap length e, length-take 4 a.bytes.now, four-long (goal.at.returns-then-bytes-lt4 c).Start)))
 
-last : tie.Need-returns-5
-last c =
-    let start = c.before.before.before.before.before.before.before.before in
-    decides start.args.bytes.now start.args.t2 c.before.before.before.before.before.before.before.if1.false (four-long start)
-    c.before.before.before.before.before.if2.false
-    c.before.before.before.if3.false
-    c.before.if4.false
+pub returns-then-bytes-signature : goal.returns-then-bytes-signature
+returns-then-bytes-signature c = let a = c.args in differs_at 0 a.bytes.now a.signature (lit< tt) c.if-bytes-signature.true
 
-pub starts_with_spec : {M : Type 1} → statement M
-starts_with_spec =
-    tie.close
-    (tie.spec
-    short
-    (λ c. search rules)
-    (λ c. search rules)
-    (λ c. let a = c.before.before.before.args in differs_at 0 a.bytes.now a.t2 (lit< tt) c.if2.true)
-    (λ c. search rules)
-    (λ c. search rules)
-    (λ c. let a = c.before.before.before.before.before.args in differs_at 1 a.bytes.now a.t2 (lit< tt) c.if3.true)
-    (λ c. search rules)
-    (λ c. search rules)
-    (λ c. let a = c.before.before.before.before.before.before.before.args in differs_at 2 a.bytes.now a.t2 (lit< tt) c.if4.true)
-    (λ c. search rules)
-    (λ c. search rules)
-    last)
+pub returns-then-bytes-signature-2 : goal.returns-then-bytes-signature-2
+returns-then-bytes-signature-2 c = let a = c.args in differs_at 1 a.bytes.now a.signature (lit< tt) c.if-bytes-signature-2.true
+
+pub returns-then-bytes-signature-3 : goal.returns-then-bytes-signature-3
+returns-then-bytes-signature-3 c = let a = c.args in differs_at 2 a.bytes.now a.signature (lit< tt) c.if-bytes-signature-3.true
+
+pub returns : goal.returns
+returns c =
+    decides c.args.bytes.now c.args.signature c.if-bytes-lt4.false (four-long (goal.at.returns c).Start)
+    c.if-bytes-signature.false
+    c.if-bytes-signature-2.false
+    c.if-bytes-signature-3.false
