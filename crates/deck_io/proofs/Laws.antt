@@ -1,23 +1,11 @@
 -- A loop of reads or writes: each brings a byte at least, or is the last.
-use Prim.Native.Nat.{ℕ, ◌+◌, ◌≤◌, ◌<◌}
-use mathlib.Core.Path.{◌≡◌}
-use mathlib.Core.Bool.{Bool, true, false}
-use native.Mathlib.Omega.{arith}
-use lib.Dec.{eqb}
-use lib.IntN.{ℤ, pos, negsuc}
-use lib.Signed.{lt_z}
-use borrow.Author.Tests.{ltb-true, eqb-false, eq-eqb}
-use Rattle.io.specs.Counts.{clamp_len}
+use Rattle.std.proofs.Common.{ℕ, ◌+◌, ◌≤◌, ◌≡◌, Bool, true, false, arith, eqb}
+use borrow.Author.Tests.{eqb-false}
 use Rattle.deck_io.specs.Moved.{Moved, Moving}
 
 -- more bytes, or none and the end
 pub brings : (at more whole : ℕ) → at + more ≤ whole → Moving (eqb more 0) (at + 1) (at + more) whole
 brings at more whole fits = (fits, λ e. let some : more ≡ 0 → ⊥ = eqb-false more 0 e in omega arith)
-
--- a call that answers less than 0 moves nothing
-pub fails : (got : ℤ) (most more : ℕ) → more ≡ clamp_len got most → lt_z got (pos 0) ≡ true → eqb more 0 ≡ true
-fails (pos k) most more is below = let none : k < 0 = ltb-true k 0 below in absurd (omega arith)
-fails (negsuc k) most more is below = eq-eqb more 0 is
 
 -- a turn more is a byte more
 pub goes_on : (before after : Bool) (turn at count room whole : ℕ) → before ≡ false → Moving before turn at whole → Moving after (at + 1) count room

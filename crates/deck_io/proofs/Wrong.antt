@@ -1,8 +1,5 @@
 -- Programs that the contracts of `within`, `usable_bytes`, `fill` and `write_out` rule out, whatever their proofs.
-use Prim.Native.Nat.{ℕ, min}
-use mathlib.Core.Path.{◌≡◌, refl}
-use mathlib.Core.Bool.{true, false}
-use native.Mathlib.Omega.{arith}
+use Rattle.std.proofs.Common.{ℕ, min, ◌≡◌, refl, true, false, arith}
 use Rattle.deck_io.specs.Moved.{Moved, EndsIf}
 use Rattle.deck_io.specs.Input.{usable_bytes}
 

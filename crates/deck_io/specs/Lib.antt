@@ -1,3 +1,5 @@
--- `Moved` has how many bytes a chunk of input or output came to, `Input` how many of those that were read are used.
+-- `Moved` has how many bytes a chunk of input or output came to, `Input` how many of those that were read are used, `Counts` what a count of a
+-- slice's bytes is.
 pub mod Moved
 pub mod Input
+pub mod Counts

@@ -1,10 +1,12 @@
 // Standard input in chunks of whole blocks, whatever the reads bring.
 ghost use Rattle.std.specs.Prelude.{◌+◌, ◌<◌, ◌≡◌, length};
+ghost use Rattle.std.specs.Io.{ReadsAtMost};
 ghost use Rattle.deck_io.specs.Moved.{Moved, Moving, EndsIf};
 ghost use Rattle.deck_io.specs.Input.{usable_bytes};
 
-use crate::MOST_TRIES;
-use libc::{EINTR, STDIN_FILENO};
+use crate::complaint::complain_why;
+use crate::{MOST_TRIES, is_interrupted};
+use std::io::{Read, Result, Write};
 
 const BLOCK: usize = 512;
 
@@ -19,38 +21,58 @@ pub struct Input {
 }
 
 // A read that a signal interrupts is made again, though not for ever.
-fn read_some(rest: &mut [u8]) -> isize {
-    let mut got = libc::read(STDIN_FILENO, rest);
+fn read_some<R: Read>(from: &mut R, rest: &mut [u8]) -> Result<usize>
+    ensures { ReadsAtMost result rest.new }
+{
     for _ in 1..MOST_TRIES {
-        if got >= 0 || os::errno() != EINTR {
-            return got;
+        match from.read(rest) {
+            Ok(count) => return Ok(count),
+            Err(why) => {
+                if !is_interrupted(why) {
+                    return Err(why);
+                }
+            }
         }
-        got = libc::read(STDIN_FILENO, rest);
     }
-    got
+    from.read(rest)
 }
 
 // One read behind the bytes that are there.
-fn read_behind(chunk: &mut [u8], at: usize, why: &[u8]) -> Input
+fn read_behind<R: Read, E: Write>(
+    from: &mut R,
+    errors: &mut E,
+    chunk: &mut [u8],
+    at: usize,
+    what: &[u8],
+) -> Input
     requires { at < length chunk.old }
     ensures moving { Moving result.is_over (at + 1) result.count (length chunk.old) }
     ensures ends_if { EndsIf result.has_failed result.is_over }
 {
-    let rest = &mut chunk[at..];
-    let got = read_some(rest);
-    if got < 0 {
-        os::fail(why);
-    }
-    let more = io::count(got, rest);
-    Input {
-        count: at + more,
-        is_over: more == 0,
-        has_failed: got < 0,
+    match read_some(from, &mut chunk[at..]) {
+        Ok(more) => Input {
+            count: at + more,
+            is_over: more == 0,
+            has_failed: false,
+        },
+        Err(why) => {
+            complain_why(errors, what, why);
+            Input {
+                count: at,
+                is_over: true,
+                has_failed: true,
+            }
+        }
     }
 }
 
-// Fills the chunk, up to the end of the input. Where a read fails, `why` is said before the system's reason.
-pub fn fill(chunk: &mut [u8; 8192], why: &[u8]) -> Input
+// Fills the chunk, up to the end of the input. Where a read fails, `what` is said before the system's reason.
+pub fn fill<R: Read, E: Write>(
+    from: &mut R,
+    errors: &mut E,
+    chunk: &mut [u8; 8192],
+    what: &[u8],
+) -> Input
     ensures moved { Moved result.is_over result.count 8192 }
     ensures ends_if { EndsIf result.has_failed result.is_over }
 {
@@ -63,12 +85,13 @@ pub fn fill(chunk: &mut [u8; 8192], why: &[u8]) -> Input
         if input.is_over || input.count >= CHUNK {
             return input;
         }
-        input = read_behind(chunk, input.count, why);
+        input = read_behind(from, errors, chunk, input.count, what);
     }
     input
 }
 
 // All that was read; where a read failed, its whole blocks, since the one behind them need not be the deck's last.
+#[tactic(auto, unfolding(crate::specs::Input::usable_bytes))]
 pub fn usable_bytes(input: Input) -> usize
     ensures { result ≡ usable_bytes input.has_failed input.count }
 {

@@ -1,5 +1,5 @@
 // Parts of lent buffers, and bytes put into them: what does not fit is left out, so that no caller owes a bound.
-ghost use Rattle.io.specs.Counts.{IsPrefixLen};
+ghost use Rattle.replay_lines.specs.Counts.{IsPrefixLen};
 
 // `n`, or the slice's length where that is less: a count of its bytes, so that `&s[..n]` owes nothing.
 pub fn within(n: usize, s: &[u8]) -> usize

@@ -4,11 +4,11 @@ use crate::line::{Token, U8, U32, after, byte_at, gap, number, refused};
 
 fn nibble_at(line: &[u8], at: usize) -> u8 {
     let byte = byte_at(line, at);
-    let d = std::num::wrapping_sub_u8(byte, b'0');
+    let d = byte.wrapping_sub(b'0');
     if d < 10 {
         return d;
     }
-    let d = std::num::wrapping_sub_u8(byte, b'a');
+    let d = byte.wrapping_sub(b'a');
     if d < 6 {
         return d + 10;
     }

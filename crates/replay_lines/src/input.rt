@@ -1,6 +1,6 @@
 // Standard input cut into lines, whatever the reads bring.
 use crate::buffer::{put, within};
-use libc::STDIN_FILENO;
+use std::io::Read;
 
 // What is left of the block that was read last, how much of the line is held, and whether the line is whole or the input over.
 #[derive(Clone, Copy)]
@@ -22,23 +22,23 @@ pub fn start() -> Input {
     }
 }
 
-fn read_again(block: &mut [u8], input: Input) -> Input {
-    let got = libc::read(STDIN_FILENO, block);
-    if got <= 0 {
-        return Input {
+// A read that fails ends the input, as one that brings nothing does.
+fn read_again<R: Read>(from: &mut R, block: &mut [u8], input: Input) -> Input {
+    match from.read(block) {
+        Ok(count) if count > 0 => Input {
+            at: 0,
+            end: count,
+            len: input.len,
+            is_line: false,
+            is_over: false,
+        },
+        _ => Input {
             at: 0,
             end: 0,
             len: input.len,
             is_line: input.len > 0,
             is_over: input.len == 0,
-        };
-    }
-    Input {
-        at: 0,
-        end: io::count(got, block),
-        len: input.len,
-        is_line: false,
-        is_over: false,
+        },
     }
 }
 
@@ -70,16 +70,16 @@ fn take(block: &[u8], line: &mut [u8], input: Input) -> Input {
     }
 }
 
-fn advance(block: &mut [u8], line: &mut [u8], input: Input) -> Input {
+fn advance<R: Read>(from: &mut R, block: &mut [u8], line: &mut [u8], input: Input) -> Input {
     if input.at < input.end {
         return take(block, line, input);
     }
-    read_again(block, input)
+    read_again(from, block, input)
 }
 
 // The next line, in the first `len` bytes of `line`. A proved loop has to end, and nothing says that the input does: the
 // turns are counted down from a number that no run uses up.
-pub fn next_line(block: &mut [u8], line: &mut [u8], before: Input) -> Input {
+pub fn next_line<R: Read>(from: &mut R, block: &mut [u8], line: &mut [u8], before: Input) -> Input {
     let mut input = Input {
         at: before.at,
         end: before.end,
@@ -89,7 +89,7 @@ pub fn next_line(block: &mut [u8], line: &mut [u8], before: Input) -> Input {
     };
     let mut turns = u64::MAX;
     while turns > 0 && !input.is_line && !input.is_over {
-        input = advance(block, line, input);
+        input = advance(from, block, line, input);
         turns -= 1;
     }
     input

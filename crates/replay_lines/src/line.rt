@@ -25,7 +25,7 @@ pub fn byte_at(line: &[u8], at: usize) -> u8 {
 }
 
 pub fn after(at: usize, n: usize) -> usize {
-    std::num::wrapping_add_usize(at, n)
+    at.wrapping_add(n)
 }
 
 pub fn refused(at: usize) -> Token {
@@ -63,7 +63,7 @@ pub fn word(line: &[u8]) -> Token {
     let mut at = 0;
     while at < line.len() {
         let letter = line[at];
-        if std::num::wrapping_sub_u8(letter, b'a') > 25 {
+        if letter.wrapping_sub(b'a') > 25 {
             break;
         }
         value = with_letter(value, letter);
@@ -124,7 +124,7 @@ fn digits(line: &[u8], start: Token, most: u64) -> Token {
     let mut number = start;
     let mut i = start.at;
     while i < line.len() {
-        let d = std::num::wrapping_sub_u8(line[i], b'0');
+        let d = line[i].wrapping_sub(b'0');
         if d > 9 {
             break;
         }

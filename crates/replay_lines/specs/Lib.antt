@@ -1,0 +1,2 @@
+-- `Counts` has what a count of a slice's bytes is.
+pub mod Counts
