@@ -8,6 +8,7 @@ use deck_io::complaint::{complain, complain_of};
 use deck_io::input::{fill, usable_bytes};
 use deck_io::output::write_out;
 use deck_io::within;
+use std::io::{Read, Write};
 
 // The deck after a chunk, and whether there may be more of it.
 #[derive(Clone, Copy)]
@@ -16,8 +17,9 @@ struct Turn {
     goes_on: bool,
 }
 
-fn say_unread(dealt: u64) {
+fn say_unread<E: Write>(errors: &mut E, dealt: u64) {
     complain_of(
+        errors,
         b"bench: blocks that were dealt before that: ",
         dealt,
         b"; what was read behind them was not; deal the deck again from its first block\n",
@@ -25,10 +27,11 @@ fn say_unread(dealt: u64) {
 }
 
 // Whether the lines were written; where they were not, what to do is said behind the reason.
-fn print_lines(lines: &[u8]) -> bool {
-    let output = write_out(lines, b"bench: a line could not be written");
+fn print_lines<W: Write, E: Write>(to: &mut W, errors: &mut E, lines: &[u8]) -> bool {
+    let output = write_out(to, errors, lines, b"bench: a line could not be written");
     if output.is_shut {
         complain(
+            errors,
             b"bench: not every line could be written; run it again with an output that takes them\n",
         );
     }
@@ -36,8 +39,10 @@ fn print_lines(lines: &[u8]) -> bool {
 }
 
 // There is room for the lines of every block of a chunk, so that it is not refused.
-fn deal_and_print(
+fn deal_and_print<W: Write, E: Write>(
     deck: Deck,
+    to: &mut W,
+    errors: &mut E,
     blocks: &[u8],
     lines: &mut [u8; 1024],
     flash: &mut [u8; 65536],
@@ -47,7 +52,10 @@ fn deal_and_print(
     let next = step.deck;
     let answer = step.answer;
     let ChunkAnswer::Dealt(count) = answer else {
-        complain(b"bench: a chunk was refused by 20: this program has to be mended\n");
+        complain(
+            errors,
+            b"bench: a chunk was refused by 20: this program has to be mended\n",
+        );
         return Turn {
             deck: next,
             goes_on: false,
@@ -57,24 +65,27 @@ fn deal_and_print(
     let used = within(count.bytes, text);
     Turn {
         deck: next,
-        goes_on: print_lines(&text[..used]),
+        goes_on: print_lines(to, errors, &text[..used]),
     }
 }
 
-fn deal_once(
+fn deal_once<R: Read, W: Write, E: Write>(
     deck: Deck,
+    from: &mut R,
+    to: &mut W,
+    errors: &mut E,
     chunk: &mut [u8; 8192],
     lines: &mut [u8; 1024],
     flash: &mut [u8; 65536],
     store: &mut [u8; 65536],
 ) -> Turn {
-    let input = fill(chunk, b"bench: the deck could not be read on");
+    let input = fill(from, errors, chunk, b"bench: the deck could not be read on");
     let blocks: &[u8] = chunk;
     let count = within(usable_bytes(input), blocks);
-    let turn = deal_and_print(deck, &blocks[..count], lines, flash, store);
+    let turn = deal_and_print(deck, to, errors, &blocks[..count], lines, flash, store);
     let next = turn.deck;
     if input.has_failed {
-        say_unread(next.bench.number);
+        say_unread(errors, next.bench.number);
     }
     Turn {
         deck: next,
@@ -83,8 +94,11 @@ fn deal_once(
 }
 
 // Chunk after chunk; a proved loop has to end, and no deck has as many.
-fn deal_all(
+fn deal_all<R: Read, W: Write, E: Write>(
     bench: Bench,
+    from: &mut R,
+    to: &mut W,
+    errors: &mut E,
     chunk: &mut [u8; 8192],
     lines: &mut [u8; 1024],
     flash: &mut [u8; 65536],
@@ -95,14 +109,15 @@ fn deal_all(
         goes_on: true,
     };
     for _ in 0..u64::MAX {
-        turn = deal_once(turn.deck, chunk, lines, flash, store);
+        turn = deal_once(turn.deck, from, to, errors, chunk, lines, flash, store);
         if !turn.goes_on {
             return;
         }
     }
 }
 
-fn main() {
+fn main(rt: HostRuntime) {
+    let mut errors = rt.stderr();
     let mut chunk = [0u8; 8192];
     let mut lines = [0u8; 1024];
     let mut flash = [0u8; 65536];
@@ -112,9 +127,19 @@ fn main() {
     let result = answer.result;
     let bench = start.bench;
     if result.number() == 0 {
-        deal_all(bench, &mut chunk, &mut lines, &mut flash, &mut store);
+        deal_all(
+            bench,
+            &mut rt.stdin(),
+            &mut rt.stdout(),
+            &mut errors,
+            &mut chunk,
+            &mut lines,
+            &mut flash,
+            &mut store,
+        );
     } else {
         complain(
+            &mut errors,
             b"bench: the stand-in refused its flash by 60 or 61: this program has to be mended\n",
         );
     }

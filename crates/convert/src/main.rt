@@ -7,6 +7,7 @@ use deck_io::complaint::{complain, complain_of};
 use deck_io::input::{Input, fill, usable_bytes};
 use deck_io::output::write_out;
 use deck_io::within;
+use std::io::{Read, Write};
 
 const BLOCK: usize = 512;
 
@@ -19,30 +20,42 @@ struct Turn {
 }
 
 // That the whole deck was copied, whether a block of kind 13 is still in it, and whether it ends inside a block.
-fn say_done(convert: Convert, rest: usize) {
-    complain_of(b"convert: blocks converted: ", convert.converted, b"\n");
+fn say_done<E: Write>(errors: &mut E, convert: Convert, rest: usize) {
+    complain_of(
+        errors,
+        b"convert: blocks converted: ",
+        convert.converted,
+        b"\n",
+    );
     if convert.left != 0 {
         complain_of(
+            errors,
             b"convert: blocks of kind 13 that were copied as they are, because their check is wrong: ",
             convert.left,
             b"; an old deck goes through recheck first, and what that writes through convert; ",
         );
         complain(
+            errors,
             b"else copy the deck again and convert it from its first block, or make it again from its lines\n",
         );
     }
     if rest != 0 {
         complain_of(
+            errors,
             b"convert: the deck ends inside a block, of which so many bytes were copied as they are: ",
             rest as u64,
             b"; it was cut short: copy it again and convert it from its first block ",
         );
-        complain(b"(a file of lines is no deck: tools/make-deck makes one of it)\n");
+        complain(
+            errors,
+            b"(a file of lines is no deck: tools/make-deck makes one of it)\n",
+        );
     }
 }
 
-fn say_unread(blocks: u64) {
+fn say_unread<E: Write>(errors: &mut E, blocks: u64) {
     complain_of(
+        errors,
         b"convert: whole blocks that were written before that: ",
         blocks,
         b"; what was read behind them was not written; convert the deck again from its first block\n",
@@ -50,11 +63,17 @@ fn say_unread(blocks: u64) {
 }
 
 // Whether the chunk's first bytes were written; where they were not, what to do is said behind the reason.
-fn write_first(chunk: &[u8], bytes: usize) -> bool {
+fn write_first<W: Write, E: Write>(to: &mut W, errors: &mut E, chunk: &[u8], bytes: usize) -> bool {
     let used = within(bytes, chunk);
-    let output = write_out(&chunk[..used], b"convert: a block could not be written");
+    let output = write_out(
+        to,
+        errors,
+        &chunk[..used],
+        b"convert: a block could not be written",
+    );
     if output.is_shut {
         complain(
+            errors,
             b"convert: not every block could be written; run it again with an output that takes them\n",
         );
     }
@@ -62,14 +81,20 @@ fn write_first(chunk: &[u8], bytes: usize) -> bool {
 }
 
 // Whether there may be more of the deck. Where there is none, standard error says how it ended.
-fn goes_on(convert: Convert, blocks: u64, rest: usize, input: Input) -> bool {
+fn goes_on<E: Write>(
+    errors: &mut E,
+    convert: Convert,
+    blocks: u64,
+    rest: usize,
+    input: Input,
+) -> bool {
     if !input.is_over {
         return true;
     }
     if input.has_failed {
-        say_unread(blocks);
+        say_unread(errors, blocks);
     } else {
-        say_done(convert, rest);
+        say_done(errors, convert, rest);
     }
     false
 }
@@ -79,22 +104,36 @@ fn convert_first(convert: Convert, chunk: &mut [u8], bytes: usize) -> Convert {
     convert.convert_chunk(&mut chunk[..used])
 }
 
-fn convert_once(turn: Turn, chunk: &mut [u8; 8192]) -> Turn {
-    let input = fill(chunk, b"convert: the deck could not be read on");
+fn convert_once<R: Read, W: Write, E: Write>(
+    turn: Turn,
+    from: &mut R,
+    to: &mut W,
+    errors: &mut E,
+    chunk: &mut [u8; 8192],
+) -> Turn {
+    let input = fill(
+        from,
+        errors,
+        chunk,
+        b"convert: the deck could not be read on",
+    );
     let used = usable_bytes(input);
     let convert = convert_first(turn.convert, chunk, used);
-    let blocks = std::num::wrapping_add_u64(turn.blocks, (used / BLOCK) as u64);
+    let blocks = turn.blocks.wrapping_add((used / BLOCK) as u64);
     let rest = used % BLOCK;
-    let is_written = write_first(chunk, used);
+    let is_written = write_first(to, errors, chunk, used);
     Turn {
         convert,
         blocks,
-        goes_on: is_written && goes_on(convert, blocks, rest, input),
+        goes_on: is_written && goes_on(errors, convert, blocks, rest, input),
     }
 }
 
 // Chunk after chunk; a proved loop has to end, and no deck has as many.
-fn main() {
+fn main(rt: HostRuntime) {
+    let mut input = rt.stdin();
+    let mut output = rt.stdout();
+    let mut errors = rt.stderr();
     let mut chunk = [0u8; 8192];
     let mut turn = Turn {
         convert: Convert::new(),
@@ -102,7 +141,7 @@ fn main() {
         goes_on: true,
     };
     for _ in 0..u64::MAX {
-        turn = convert_once(turn, &mut chunk);
+        turn = convert_once(turn, &mut input, &mut output, &mut errors, &mut chunk);
         if !turn.goes_on {
             return;
         }

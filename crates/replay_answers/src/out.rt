@@ -2,10 +2,10 @@
 // buffer has room for the longest answer whenever a line is answered.
 
 use crate::told::{Answer, OUTSIDE, Tail, Told};
-use libc::STDOUT_FILENO;
 use replay_lines::asked::Asked;
-use replay_lines::buffer::{put, within};
+use replay_lines::buffer::{between, put, within};
 use replay_lines::names::has_room;
+use std::io::{Result, Write};
 
 pub fn text(out: &mut [u8], at: usize, bytes: &[u8]) -> usize {
     let mut next = at;
@@ -15,10 +15,30 @@ pub fn text(out: &mut [u8], at: usize, bytes: &[u8]) -> usize {
     next
 }
 
+// The number with zeros in front of it.
+fn digits(number: u64) -> [u8; 20] {
+    let mut digits = [b'0'; 20];
+    let mut rest = number;
+    for i in 0..20 {
+        digits[19 - i] = digit((rest % 10) as u8);
+        rest /= 10;
+    }
+    digits
+}
+
+// How many zeros stand in front, of which the last digit is none.
+fn zeros(digits: &[u8; 20]) -> usize {
+    for i in 0..19 {
+        if digits[i] != b'0' {
+            return i;
+        }
+    }
+    19
+}
+
 pub fn decimal(out: &mut [u8], at: usize, number: u64) -> usize {
-    let mut digits = [0u8; 20];
-    let n = io::decimal(number, &mut digits);
-    text(out, at, &digits[..n])
+    let digits = digits(number);
+    text(out, at, between(&digits, zeros(&digits), 20))
 }
 
 // A number behind a space.
@@ -63,9 +83,8 @@ fn digest(bytes: &[u8]) -> u32 {
 }
 
 fn digest_text(out: &mut [u8], at: usize, bytes: &[u8]) -> usize {
-    let mut digits = [0u8; 16];
-    let n = io::hex(digest(bytes) as u64, 8, &mut digits);
-    text(out, at, &digits[..n])
+    let digest = digest(bytes).to_be_bytes();
+    hex(out, at, &digest)
 }
 
 // The language's BYTES: spelled out up to 64, a digest above.
@@ -151,19 +170,19 @@ pub fn answer(out: &mut [u8], at: usize, answer: Answer, room: &[u8], own: &[u8]
     self::tail(out, next, tail, &small, room, own)
 }
 
-pub fn flush(out: &[u8], n: usize) {
+pub fn flush<W: Write>(to: &mut W, out: &[u8], n: usize) -> Result<()> {
     let n = within(n, out);
-    io::write_all(STDOUT_FILENO, &out[..n]);
+    to.write_all(&out[..n])
 }
 
 // Past the answer's line feed, or at the start where the buffer was more than half full and was written out.
-pub fn end_line(out: &mut [u8], at: usize) -> usize {
+pub fn end_line<W: Write>(to: &mut W, out: &mut [u8], at: usize) -> Result<usize> {
     let next = put(out, at, b'\n');
     if next > out.len() / 2 {
-        flush(out, next);
-        return 0;
+        flush(to, out, next)?;
+        return Ok(0);
     }
-    next
+    Ok(next)
 }
 
 fn answer_and_room(out: &mut [u8], at: usize, asked: Asked, answer: Answer, room: &[u8]) -> usize {
@@ -175,13 +194,14 @@ fn answer_and_room(out: &mut [u8], at: usize, asked: Asked, answer: Answer, room
 }
 
 // The whole line of an answer that has no other section than the room.
-pub fn line_with_room(
+pub fn line_with_room<W: Write>(
+    to: &mut W,
     out: &mut [u8],
     at: usize,
     asked: Asked,
     answer: Answer,
     room: &[u8],
-) -> usize {
+) -> Result<usize> {
     let next = answer_and_room(out, at, asked, answer, room);
-    end_line(out, next)
+    end_line(to, out, next)
 }

@@ -80,7 +80,7 @@ pub fn finish(told: Told) -> Told {
     }
     Told {
         number: 0,
-        count: std::num::wrapping_add_usize(told.count, 1),
+        count: told.count.wrapping_add(1),
         values: [3, v[0], v[1], 0, 0, 0, 0, 0, 0],
     }
 }
