@@ -55,6 +55,7 @@ pub enum CommandBlockParseError {
 
 impl CommandBlockParseError {
     // Its number in the rules.
+    #[tactic(auto, unfolding(crate::specs::CommandMeets::command_error_number))]
     pub fn number(self) -> u8
         ensures { result ≡ command_error_number self }
     {
@@ -75,6 +76,7 @@ pub enum CommandAnswer {
 
 impl CommandAnswer {
     // Its number in the rules, 0 where a command was read.
+    #[tactic(auto, unfolding(promise::specs::Told::number, crate::specs::CommandMeets::command_told))]
     pub fn number(self) -> u8
         ensures { (signature : List ℕ) → result ≡ number (command_told self signature) }
     {
