@@ -31,6 +31,7 @@ pub enum RangeAnswer {
 
 impl FlashSectors {
     // 0 for a flash of whole sectors.
+    #[tactic(auto, unfolding(promise::specs::Told::number, crate::specs::Flash::size_told))]
     pub fn number(self) -> u8
         ensures { result ≡ number (size_told self) }
     {
@@ -43,6 +44,7 @@ impl FlashSectors {
 
 impl RangeAnswer {
     // 0 for a range that fits, else 57.
+    #[tactic(auto, unfolding(promise::specs::Told::number, crate::specs::Flash::range_told))]
     pub fn number(self) -> u8
         ensures { result ≡ number (range_told self) }
     {
