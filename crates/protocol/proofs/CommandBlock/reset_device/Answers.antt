@@ -1,9 +1,0 @@
--- The opcode is the value's number.
-use mathlib.Core.Path.{ap, ◌∙◌}
-use Rattle.protocol_codes.specs.declared.CommandCode.TheVariants.{DeviceReset}
-use Rattle.protocol.specs.Commands.{opcode_command}
-use Rattle.protocol.proofs.CommandBlock.reset_device.Goals as goal
-
-pub returns : goal.returns
-returns c =
-    c.opcode_command.ensures ∙ ap (opcode_command c.args.tag DeviceReset) c.number.ensures
