@@ -1,5 +1,5 @@
 -- The first byte is set, and the check of what that makes is put in its place.
-use Rattle.std.proofs.Common.{set, ap, ◌∙◌, arith, length-set, rules}
+use Rattle.std.proofs.Common.{set, ap, ◌∙◌, arith, length-set}
 use Rattle.deck_block.specs.Block.{with_check}
 use Rattle.deck_block.proofs.Put.{put_right}
 use Rattle.deck_convert.proofs.OneBlock.{set_first}
