@@ -1,0 +1,7 @@
+-- Each field as it stands.
+use mathlib.Core.Path.{refl}
+use borrow.Author.Rules.{rules}
+use Rattle.loader_walk.proofs.walk.found.Goals as goal
+
+pub returns : goal.returns
+returns c = refl

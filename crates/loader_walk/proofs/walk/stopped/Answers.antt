@@ -1,0 +1,7 @@
+-- No entry, and the walk as it was.
+use mathlib.Core.Path.{refl}
+use borrow.Author.Rules.{rules}
+use Rattle.loader_walk.proofs.walk.stopped.Goals as goal
+
+pub returns : goal.returns
+returns c = rw c.none.ensures refl
