@@ -1,6 +1,5 @@
 -- Each field as it stands.
 use mathlib.Core.Path.{refl}
-use borrow.Author.Rules.{rules}
 use Rattle.loader_walk.proofs.walk.found.Goals as goal
 
 pub returns : goal.returns

@@ -3,7 +3,6 @@ use Prim.Native.Nat.{◌*◌, ◌≤◌}
 use mathlib.Core.Path.{refl}
 use native.Mathlib.Nat.{mul-le-mul}
 use native.Mathlib.Omega.{arith}
-use borrow.Author.Rules.{rules}
 use Rattle.loader_walk.proofs.walk.start_of.Goals as goal
 use Rattle.loader_walk.proofs.walk.start_of.Goals.{Start}
 
@@ -17,4 +16,4 @@ pub overflow_add-result : goal.overflow_add-result
 overflow_add-result c = let p = product (goal.at.overflow_add-result c).Start in omega arith
 
 pub returns : goal.returns
-returns c = let p = product (goal.at.returns c).Start in (refl, omega arith)
+returns c = let p = product (goal.at.returns c).Start in record { value = refl; upper_bound = omega arith }

@@ -1,6 +1,5 @@
 -- No entry, and the walk as it was.
 use mathlib.Core.Path.{refl}
-use borrow.Author.Rules.{rules}
 use Rattle.loader_walk.proofs.walk.stopped.Goals as goal
 
 pub returns : goal.returns

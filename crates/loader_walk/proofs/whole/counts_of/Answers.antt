@@ -1,6 +1,5 @@
 -- The counts stand in the header that was read.
 use mathlib.Core.Path.{ap}
-use borrow.Author.Rules.{rules}
 use Rattle.loader_walk.specs.Code.{header_counts}
 use Rattle.loader_walk.proofs.whole.counts_of.Goals as goal
 

@@ -1,10 +1,9 @@
 -- A walk to its last step, which is the file's answer.
 use mathlib.Core.Path.{sym, subst}
-use borrow.Author.Rules.{rules}
 use Rattle.loader_walk.specs.declared.whole.EntryCounts.{EntryCounts}
 use Rattle.loader_walk.specs.declared.whole.ExamineAnswer.TheVariants.{Whole}
 use Rattle.loader_walk.specs.Walking.{examined, ExamineMeets}
-use Rattle.loader_walk.proofs.Examining.{Onward, onward_new, onward_next, left_in, left_less, ends_whole, ends_refused}
+use Rattle.loader_walk.proofs.Examining.{onward_new, onward_next, left_less, ends_whole, ends_refused}
 use Rattle.loader_walk.proofs.whole.examine.Goals as goal
 
 pub loop-walk-init : goal.loop-walk-init
@@ -28,11 +27,10 @@ returns-in-End c =
     let at = c.loop-walk in
     let step = c.step-step in
     subst (λ (counts : EntryCounts). ExamineMeets (record { answer = Whole counts; unknown_tag = step.result.unknown_tag }) (examined file))
-    (sym c.FIXME.Counts-of.ensures) (ends_whole file at.walk step.result at.invariant step.ensures c.in-End.is)
+    (sym c.counts_of.ensures) (ends_whole file at.walk step.result at.invariant step.ensures c.in-End.is)
 
 pub returns-in-Refused : goal.returns-in-Refused
 returns-in-Refused c =
     let at = c.loop-walk in
     let step = c.step-step in
-    let answer = c.answer-1 in
-    ends_refused c.args.file.now at.walk step.result at.invariant step.ensures answer.given.0.0 answer.given.1
+    ends_refused c.args.file.now at.walk step.result at.invariant step.ensures c.in-Refused.error c.in-Refused.is

@@ -2,7 +2,6 @@
 use Prim.Native.Nat.{suc, ◌<◌}
 use mathlib.Core.Path.{◌≡◌, ap, sym, subst, ◌∙◌}
 use mathlib.Core.List.{[], ◌∷◌}
-use borrow.Author.Rules.{rules}
 use Rattle.loader_records.specs.declared.list.RkBootHeaderEntry.{RkBootHeaderEntry}
 use Rattle.loader_walk.specs.declared.walk.WalkStep.{WalkStep}
 use Rattle.loader_walk.specs.Entries.{lookup, rest_of, list_at}
@@ -15,9 +14,8 @@ pub returns-in-Refused : goal.returns-in-Refused
 returns-in-Refused c =
     let a = c.args in
     let read = c.from_bytes-read in
-    let answer = c.answer-1 in
-    step_refused a.self a.file.now c.stopped.result read.result.answer answer.given.0.0 read.result.header read.result.unknown_tag
-    c.stopped.ensures answer.given.1 read.ensures
+    step_refused a.self a.file.now c.stopped.result read.result.answer c.in-Refused.error read.result.header read.result.unknown_tag
+    c.stopped.ensures c.in-Refused.is read.ensures
 
 pub returns-then-at-ge-LISTS : goal.returns-then-at-ge-LISTS
 returns-then-at-ge-LISTS c =

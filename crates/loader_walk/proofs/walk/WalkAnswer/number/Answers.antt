@@ -1,6 +1,5 @@
 -- An entry and the end are 0, a refusal is its own number.
 use mathlib.Core.Path.{ap, sym, ◌∙◌}
-use borrow.Author.Rules.{rules}
 use Rattle.promise.specs.Told.{number}
 use Rattle.loader_walk.specs.Walking.{walk_number, walk_told}
 use Rattle.loader_walk.proofs.walk.WalkAnswer.number.Goals as goal

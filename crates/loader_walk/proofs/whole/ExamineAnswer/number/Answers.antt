@@ -1,6 +1,5 @@
 -- A whole file is 0, a refusal is its own number.
 use mathlib.Core.Path.{ap, sym, ◌∙◌}
-use borrow.Author.Rules.{rules}
 use Rattle.promise.specs.Told.{number}
 use Rattle.loader_walk.specs.Walking.{examine_number, examine_told}
 use Rattle.loader_walk.proofs.whole.ExamineAnswer.number.Goals as goal
