@@ -90,6 +90,24 @@ pub fn fill<R: Read, E: Write>(
     input
 }
 
+// Fills a buffer of any length, up to the end of the input, and answers how many bytes came. A read that fails is the answer.
+pub fn read_full<R: Read>(from: &mut R, buffer: &mut [u8]) -> Result<usize>
+    ensures { ReadsAtMost result buffer.new }
+{
+    let mut done = 0;
+    for _ in 0..buffer.len() {
+        if done >= buffer.len() {
+            break;
+        }
+        let more = read_some(from, &mut buffer[done..])?;
+        if more == 0 {
+            break;
+        }
+        done += more;
+    }
+    Ok(done)
+}
+
 // All that was read; where a read failed, its whole blocks, since the one behind them need not be the deck's last.
 #[tactic(auto, unfolding(crate::specs::Input::usable_bytes))]
 pub fn usable_bytes(input: Input) -> usize

@@ -2,10 +2,11 @@
 
 #![tactic(auto)]
 
-use deck_io::complaint::complain;
+use deck_io::complaint::{complain, complain_why};
 use deck_io::input::fill;
 use deck_io::within;
 use loader_text::list;
+use std::io::{Read, Write};
 
 // The largest file.
 const LARGEST: usize = 4194304;
@@ -35,45 +36,65 @@ fn keep(file: &mut [u8], at: usize, chunk: &[u8], count: usize) {
     put(&mut file[from..], &chunk[..n]);
 }
 
-fn read_on(file: &mut [u8; 4194304], chunk: &mut [u8; 8192], count: usize) -> Reading {
-    let input = fill(chunk, b"loader: the file could not be read on");
+fn read_on<R: Read, E: Write>(
+    from: &mut R,
+    errors: &mut E,
+    file: &mut [u8; 4194304],
+    chunk: &mut [u8; 8192],
+    count: usize,
+) -> Reading {
+    let input = fill(
+        from,
+        errors,
+        chunk,
+        b"loader: the file could not be read on",
+    );
     keep(file, count, chunk, input.count);
     Reading {
-        count: std::num::wrapping_add_usize(count, input.count),
+        count: count.wrapping_add(input.count),
         is_over: input.is_over,
         has_failed: input.has_failed,
     }
 }
 
-fn say_unread() {
+fn say_unread<E: Write>(errors: &mut E) {
     complain(
+        errors,
         b"loader: nothing is listed; see that the whole file can be read, and list it again\n",
     );
 }
 
-fn say_too_long() {
-    complain(b"loader: the file is longer than 4194304 bytes (4 MiB), and nothing is listed; ");
-    complain(b"see that it is a loader file, which has some hundred kB, and not a whole image\n");
+fn say_too_long<E: Write>(errors: &mut E) {
+    complain(
+        errors,
+        b"loader: the file is longer than 4194304 bytes (4 MiB), and nothing is listed; ",
+    );
+    complain(
+        errors,
+        b"see that it is a loader file, which has some hundred kB, and not a whole image\n",
+    );
 }
 
-fn list_first(file: &[u8], count: usize) {
+fn list_first<W: Write, E: Write>(to: &mut W, errors: &mut E, file: &[u8], count: usize) {
     let n = within(count, file);
-    if !list(&file[..n]) {
-        os::fail(b"loader: the list could not be written");
+    if let Err(why) = list(to, &file[..n]) {
+        complain_why(errors, b"loader: the list could not be written", why);
     }
 }
 
-fn finish(file: &[u8; 4194304], reading: Reading) {
+fn finish<W: Write, E: Write>(to: &mut W, errors: &mut E, file: &[u8; 4194304], reading: Reading) {
     if reading.has_failed {
-        say_unread();
+        say_unread(errors);
     } else if reading.count > LARGEST {
-        say_too_long();
+        say_too_long(errors);
     } else {
-        list_first(file, reading.count);
+        list_first(to, errors, file, reading.count);
     }
 }
 
-fn main() {
+fn main(rt: HostRuntime) {
+    let mut input = rt.stdin();
+    let mut errors = rt.stderr();
     let mut file = [0u8; 4194304];
     let mut chunk = [0u8; 8192];
     let mut reading = Reading {
@@ -83,8 +104,14 @@ fn main() {
     };
     for _ in 0..CHUNKS {
         if !reading.is_over {
-            reading = read_on(&mut file, &mut chunk, reading.count);
+            reading = read_on(
+                &mut input,
+                &mut errors,
+                &mut file,
+                &mut chunk,
+                reading.count,
+            );
         }
     }
-    finish(&file, reading);
+    finish(&mut rt.stdout(), &mut errors, &file, reading);
 }

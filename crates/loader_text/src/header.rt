@@ -1,54 +1,42 @@
 // A header's lines.
-use crate::text::{print, print_filled, print_four, print_hex_line, print_number};
+use crate::text::{print, print_four};
 use loader_records::header::RkBootHeader;
 use loader_records::time::RkTime;
-
-fn print_two(before: &[u8], number: u8) {
-    print(before);
-    print_filled(number as u64, 2, b"0");
-}
+use std::io::{Result, Write};
 
 // As a date where it is one, and else as the same numbers.
-fn print_time(time: RkTime) {
-    print_filled(time.year as u64, 4, b"0");
-    print_two(b"-", time.month);
-    print_two(b"-", time.day);
-    print_two(b" ", time.hour);
-    print_two(b":", time.minute);
-    print_two(b":", time.second);
+fn print_time<W: Write>(to: &mut W, time: RkTime) -> Result<()> {
+    write!(to, "{:04}-{:02}-{:02} ", time.year, time.month, time.day)?;
+    write!(to, "{:02}:{:02}:{:02}", time.hour, time.minute, time.second)
 }
 
-fn print_four_line(before: &[u8], b: [u8; 4]) {
-    print(before);
-    print_four(b);
-    print(b"\n");
-}
-
-fn print_count(before: &[u8], count: u8) {
-    print_number(before, count as u64, b"");
+fn print_four_line<W: Write>(to: &mut W, before: &[u8], b: [u8; 4]) -> Result<()> {
+    print(to, before)?;
+    print_four(to, b)?;
+    print(to, b"\n")
 }
 
 // What the file is, and who made it when.
-fn print_first(header: RkBootHeader) {
+fn print_first<W: Write>(to: &mut W, header: RkBootHeader) -> Result<()> {
     let tag = header.tag;
-    print_four_line(b"tag            ", tag);
-    print_hex_line(b"version        0x", header.version as u64, 8);
-    print_hex_line(b"merge version  0x", header.merge_version as u64, 8);
-    print(b"release time   ");
-    print_time(header.release);
+    print_four_line(to, b"tag            ", tag)?;
+    writeln!(to, "version        0x{:08x}", header.version)?;
+    writeln!(to, "merge version  0x{:08x}", header.merge_version)?;
+    print(to, b"release time   ")?;
+    print_time(to, header.release)
 }
 
-fn print_rest(header: RkBootHeader) {
+fn print_rest<W: Write>(to: &mut W, header: RkBootHeader) -> Result<()> {
     let chip = header.supported_chip;
-    print_four_line(b"\nchip           ", chip);
-    print_hex_line(b"sign flag      0x", header.sign_flag as u64, 2);
-    print_hex_line(b"RC4 flag       0x", header.rc4_flag as u64, 2);
-    print_count(b"entries        471: ", header.entry_471.count);
-    print_count(b", 472: ", header.entry_472.count);
-    print_count(b", loader: ", header.entry_loader.count);
+    print_four_line(to, b"\nchip           ", chip)?;
+    writeln!(to, "sign flag      0x{:02x}", header.sign_flag)?;
+    writeln!(to, "RC4 flag       0x{:02x}", header.rc4_flag)?;
+    write!(to, "entries        471: {}", header.entry_471.count)?;
+    write!(to, ", 472: {}", header.entry_472.count)?;
+    write!(to, ", loader: {}", header.entry_loader.count)
 }
 
-pub(crate) fn print_header(header: RkBootHeader) {
-    print_first(header);
-    print_rest(header);
+pub(crate) fn print_header<W: Write>(to: &mut W, header: RkBootHeader) -> Result<()> {
+    print_first(to, header)?;
+    print_rest(to, header)
 }

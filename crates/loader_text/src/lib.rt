@@ -1,4 +1,4 @@
-// What a loader file says, in words on standard output: its header, a line for each entry, and at the end whether the file is whole or why it is not.
+// What a loader file says, in words: its header, a line for each entry, and at the end whether the file is whole or why it is not.
 //
 // This is what the program `loader` prints and `try_loader` tries. Its functions promise that they are safe and end.
 
@@ -9,26 +9,27 @@ mod header;
 mod text;
 mod verdict;
 
-use crate::text::{print, print_number};
+use crate::text::print;
 use loader_records::answer::RkBootAnswer;
 use loader_records::header::RkBootHeader;
+use std::io::{Result, Write};
 
 // The header and the entries, as far as they can be read.
-fn print_content(file: &[u8]) {
+fn print_content<W: Write>(to: &mut W, file: &[u8]) -> Result<()> {
     let read = RkBootHeader::from_bytes(file);
     let answer = read.answer;
     let RkBootAnswer::Read = answer else {
-        return;
+        return Ok(());
     };
-    header::print_header(read.header);
-    entries::print_entries(file);
+    header::print_header(to, read.header)?;
+    entries::print_entries(to, file)
 }
 
-// The whole list of a file. Answers whether its last line could be written.
-pub fn list(file: &[u8]) -> bool {
-    print_number(b"file           ", file.len() as u64, b" bytes\n");
-    print_content(file);
-    print(b"\n");
-    verdict::print_verdict(file);
-    print(b"\n")
+// The whole list of a file, up to the first text that cannot be written.
+pub fn list<W: Write>(to: &mut W, file: &[u8]) -> Result<()> {
+    writeln!(to, "file           {} bytes", file.len())?;
+    print_content(to, file)?;
+    print(to, b"\n")?;
+    verdict::print_verdict(to, file)?;
+    print(to, b"\n")
 }
