@@ -1,7 +1,6 @@
 -- The one test is the one rule.
 use mathlib.Core.Path.{refl}
 use mathlib.Core.List.{[], ◌∷◌}
-use borrow.Author.Rules.{rules}
 use borrow.Author.Tests.{eq-eqb, ne_eqb}
 use Rattle.protocol_codes.specs.declared.Status.TheVariants.{SUCCESS}
 use Rattle.promise.specs.Rules.{or_refuse}
@@ -11,24 +10,20 @@ use Rattle.mock_table.specs.Table.{reply_turn}
 use Rattle.mock_table.specs.declared.session.CommandState.TheVariants.{Status}
 use Rattle.mock_table.specs.declared.outcome.Effect.TheVariants.{Reply}
 use Rattle.mock_table.proofs.Meets.{refused_as, done_as}
-use Rattle.mock_table.proofs.reading.copy_reply.Statement.{statement}
-use Rattle.mock_table.proofs.reading.copy_reply.Tie as tie
+use Rattle.mock_table.proofs.reading.copy_reply.Goals as goal
 
-returns : tie.Need-returns
+pub returns-then-actual-expected : goal.returns-then-actual-expected
 unfolding reply_turn or_refuse error_values
-returns c =
-    let z = c.before.before.reply-size in
-    let a = c.before.before.before.args in
+returns-then-actual-expected c =
+    let z = c.reply_size-expected in
+    let a = c.args in
     refused_as a.reset (InvalidTransferLength z.result a.actual) 50 (z.result ∷ a.actual ∷ []) refl c.refuse.ensures
-    (rw (← z.ensures, ne_eqb a.actual z.result c.before.if1.true) refl)
+    (rw (← z.ensures, ne_eqb a.actual z.result c.if-actual-expected.true) refl)
 
-returns-2 : tie.Need-returns-2
+pub returns : goal.returns
 unfolding reply_turn or_refuse
-returns-2 c =
-    let z = c.before.before.reply-size in
-    let a = c.before.before.before.args in
+returns c =
+    let z = c.reply_size-expected in
+    let a = c.args in
     done_as (Status a.command SUCCESS) a.reset (Reply a.reply) c.settle.ensures
-    (rw (← z.ensures, eq-eqb a.actual z.result c.before.if1.false) refl)
-
-pub copy_reply_spec : {M : Type 1} → statement M
-copy_reply_spec = tie.close (tie.spec (λ c κs. search rules) (λ c κs. search rules) returns (λ c κs. search rules) returns-2)
+    (rw (← z.ensures, eq-eqb a.actual z.result c.if-actual-expected.false) refl)
