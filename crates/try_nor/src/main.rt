@@ -3,7 +3,6 @@
 
 #![tactic(auto)]
 
-use libc::STDOUT_FILENO;
 use mock::config::MockDeviceConfig;
 use mock::device::{MockState, MockStep};
 use mock_base::error::MockAnswer;
@@ -18,6 +17,7 @@ use replay_lines::input::{Input, next_line, start};
 use replay_lines::line::{Token, U8, U16, U32, as_u8, as_u16, as_u32, byte_at, is_end, word};
 use run_operation::{RunAnswer, run_whole};
 use run_turn::Stop;
+use std::io::{Read, Result, Write};
 
 // The names of the calls, their letters as one number.
 const HEAD: u64 = 0x68656164;
@@ -65,35 +65,36 @@ struct Asked {
 #[derive(Clone, Copy)]
 struct Wanted(u64, u64);
 
-fn print(text: &[u8]) {
-    io::write_all(STDOUT_FILENO, text);
+fn print<W: Write>(to: &mut W, text: &[u8]) -> Result<()> {
+    to.write_all(text)
 }
 
-fn print_number(before: &[u8], number: u64) {
-    print(before);
-    io::print_decimal(STDOUT_FILENO, number);
+fn print_number<W: Write>(to: &mut W, before: &[u8], number: u64) -> Result<()> {
+    print(to, before)?;
+    write!(to, "{number}")
 }
 
-fn print_refused(number: u8, call: u64, block_size: u16) {
+fn print_refused<W: Write>(to: &mut W, number: u8, call: u64, block_size: u16) -> Result<()> {
     match number {
         15 => {
             if call == WRITE {
-                print(b"failed (15): the cells did not take it");
+                print(to, b"failed (15): the cells did not take it")
             } else {
-                print(b"failed (15): the head did not take it");
+                print(to, b"failed (15): the head did not take it")
             }
         }
-        53 => print(b"refused (53): the head knows no such command"),
-        57 => print(b"refused (57): past the end of the flash"),
-        62 => print(b"refused (62): a block size of 0"),
+        53 => print(to, b"refused (53): the head knows no such command"),
+        57 => print(to, b"refused (57): past the end of the flash"),
+        62 => print(to, b"refused (62): a block size of 0"),
         63 => {
             print_number(
+                to,
                 b"refused (63): erases take whole blocks of ",
                 block_size as u64,
-            );
-            print(b" sectors");
+            )?;
+            print(to, b" sectors")
         }
-        _ => print_number(b"refused: ", number as u64),
+        _ => print_number(to, b"refused: ", number as u64),
     }
 }
 
@@ -106,33 +107,32 @@ fn is_alike(bytes: &[u8], byte: u8) -> bool {
     true
 }
 
-fn print_bytes(bytes: &[u8]) {
+fn print_bytes<W: Write>(to: &mut W, bytes: &[u8]) -> Result<()> {
     let first = byte_at(bytes, 0);
     let is_alike = is_alike(bytes, first);
     if !is_alike {
-        print(b"not all alike, first ");
+        print(to, b"not all alike, first ")?;
     }
-    io::print_hex(STDOUT_FILENO, first as u64, 2);
+    write!(to, "{first:02x}")?;
     if is_alike {
-        print(b" in each");
+        print(to, b" in each")?;
     }
+    Ok(())
 }
 
-fn print_moved(moved: u64, call: u64, bytes: &[u8; 2048]) {
-    io::print_decimal(STDOUT_FILENO, moved);
+fn print_moved<W: Write>(to: &mut W, moved: u64, call: u64, bytes: &[u8; 2048]) -> Result<()> {
     if call == WRITE {
-        print(b" bytes written");
-        return;
+        return write!(to, "{moved} bytes written");
     }
-    print(b" bytes read: ");
-    print_bytes(between(bytes, 0, moved as usize));
+    write!(to, "{moved} bytes read: ")?;
+    print_bytes(to, between(bytes, 0, moved as usize))
 }
 
-fn print_done(value: u64, call: u64, bytes: &[u8; 2048]) {
+fn print_done<W: Write>(to: &mut W, value: u64, call: u64, bytes: &[u8; 2048]) -> Result<()> {
     match call {
-        STORAGE => print_number(b"storage ", value),
-        WRITE | READ => print_moved(value, call, bytes),
-        _ => print(b"done"),
+        STORAGE => print_number(to, b"storage ", value),
+        WRITE | READ => print_moved(to, value, call, bytes),
+        _ => print(to, b"done"),
     }
 }
 
@@ -161,32 +161,44 @@ fn value_of(answer: RunAnswer) -> u64 {
     reply_value(reply)
 }
 
-fn print_end(answer: RunAnswer, call: u64, block_size: u16, bytes: &[u8; 2048]) {
+fn print_end<W: Write>(
+    to: &mut W,
+    answer: RunAnswer,
+    call: u64,
+    block_size: u16,
+    bytes: &[u8; 2048],
+) -> Result<()> {
     let number = answer.number();
     if number == 0 {
-        print_done(value_of(answer), call, bytes);
+        print_done(to, value_of(answer), call, bytes)?;
     } else {
-        print_refused(number, call, block_size);
+        print_refused(to, number, call, block_size)?;
     }
-    print(b"\n");
+    print(to, b"\n")
 }
 
-fn print_head(answer: MockAnswer, sectors: u32, block_size: u16) {
+fn print_head<W: Write>(
+    to: &mut W,
+    answer: MockAnswer,
+    sectors: u32,
+    block_size: u16,
+) -> Result<()> {
     let result = answer.result;
     let number = result.number();
     if number == 0 {
-        print_number(b"a NOR head of ", sectors as u64);
-        print_number(b" sectors, erased in blocks of ", block_size as u64);
+        print_number(to, b"a NOR head of ", sectors as u64)?;
+        print_number(to, b" sectors, erased in blocks of ", block_size as u64)?;
     } else {
-        print_refused(number, HEAD, block_size);
+        print_refused(to, number, HEAD, block_size)?;
     }
-    print(b"\n");
+    print(to, b"\n")
 }
 
-fn print_calls() {
+fn print_calls<W: Write>(to: &mut W) -> Result<()> {
     print(
+        to,
         b"not understood; the calls: head SECTORS BLOCKSIZE (32 sectors at most), storage, switch NUMBER, write FIRST COUNT BYTE and read FIRST COUNT (4 sectors at most), erase FIRST COUNT\n",
-    );
+    )
 }
 
 // A fresh head, with all of its flash erased.
@@ -204,10 +216,10 @@ fn first_head(flash: &mut [u8; 16384]) -> MockState {
 }
 
 // A block size of 0 is told, and the head is there all the same.
-fn begin(asked: Asked, flash: &mut [u8; 16384]) -> MockState {
+fn begin<W: Write>(to: &mut W, asked: Asked, flash: &mut [u8; 16384]) -> Result<MockState> {
     let made = fresh(asked.first, asked.count, flash);
-    print_head(made.answer, asked.first, asked.count);
-    made.state
+    print_head(to, made.answer, asked.first, asked.count)?;
+    Ok(made.state)
 }
 
 // The bytes that a call moves.
@@ -239,7 +251,13 @@ fn operation_of(asked: Asked, size: usize) -> UsbOperation {
 }
 
 // One whole operation at a head of so many sectors.
-fn carry_out(asked: Asked, device: MockState, sectors: u32, flash: &mut [u8]) -> MockState {
+fn carry_out<W: Write>(
+    to: &mut W,
+    asked: Asked,
+    device: MockState,
+    sectors: u32,
+    flash: &mut [u8],
+) -> Result<MockState> {
     let size = size_of(asked.call, asked.count);
     let mut bytes = [asked.byte; 2048];
     let n = within(size, &bytes);
@@ -252,8 +270,14 @@ fn carry_out(asked: Asked, device: MockState, sectors: u32, flash: &mut [u8]) ->
         &mut bytes[..n],
     );
     let answer = done.answer;
-    print_end(answer, asked.call, device.config.block_size_sectors, &bytes);
-    done.device
+    print_end(
+        to,
+        answer,
+        asked.call,
+        device.config.block_size_sectors,
+        &bytes,
+    )?;
+    Ok(done.device)
 }
 
 fn wanted_by(call: u64) -> Wanted {
@@ -292,14 +316,22 @@ fn read_line(buffer: &[u8; 128], input: Input, turn: u64) -> Asked {
     }
 }
 
-fn answer(asked: Asked, device: MockState, sectors: u32, flash: &mut [u8; 16384]) -> MockState {
+fn answer<W: Write>(
+    to: &mut W,
+    asked: Asked,
+    device: MockState,
+    sectors: u32,
+    flash: &mut [u8; 16384],
+) -> Result<MockState> {
     let call = asked.call;
     match call {
-        HEAD => return begin(asked, flash),
-        STORAGE | SWITCH | WRITE | READ | ERASE => return carry_out(asked, device, sectors, flash),
+        HEAD => return begin(to, asked, flash),
+        STORAGE | SWITCH | WRITE | READ | ERASE => return carry_out(
+            to, asked, device, sectors, flash,
+        ),
         _ => {
-            print_calls();
-            return device;
+            print_calls(to)?;
+            return Ok(device);
         }
     }
 }
@@ -313,24 +345,37 @@ fn sectors_after(asked: Asked, sectors: u32) -> u32 {
 }
 
 // A proved loop has to end, and nothing says that the input does: no run uses up so many turns.
-fn run(block: &mut [u8; 4096], line: &mut [u8; 128], flash: &mut [u8; 16384]) {
+fn run<R: Read, W: Write>(
+    from: &mut R,
+    to: &mut W,
+    block: &mut [u8; 4096],
+    line: &mut [u8; 128],
+    flash: &mut [u8; 16384],
+) -> Result<()> {
     let mut device = first_head(flash);
     let mut sectors = FIRST_SECTORS;
     let mut input = start();
     for turn in 0..u64::MAX {
-        input = next_line(block, line, input);
+        input = next_line(from, block, line, input);
         if input.is_over {
-            return;
+            break;
         }
         let asked = read_line(line, input, turn);
         sectors = sectors_after(asked, sectors);
-        device = answer(asked, device, sectors, flash);
+        device = answer(to, asked, device, sectors, flash)?;
     }
+    Ok(())
 }
 
-fn main() {
+fn main(rt: HostRuntime) -> Result<()> {
     let mut block = [0u8; 4096];
     let mut line = [0u8; 128];
     let mut flash = [0u8; 16384];
-    run(&mut block, &mut line, &mut flash);
+    run(
+        &mut rt.stdin(),
+        &mut rt.stdout(),
+        &mut block,
+        &mut line,
+        &mut flash,
+    )
 }

@@ -3,7 +3,6 @@
 
 #![tactic(auto)]
 
-use libc::STDOUT_FILENO;
 use operation::starts::write_lba;
 use operation::steps::{UsbOperation, UsbStep};
 use operation_finish::{FinishAnswer, SectorTransfer, UsbReply};
@@ -11,6 +10,7 @@ use replay_lines::buffer::{between, within};
 use replay_lines::data::data;
 use replay_lines::input::{Input, next_line, start};
 use replay_lines::line::{Token, U32, U64, after, byte_at, is_end, number};
+use std::io::{Read, Result, Write};
 
 // the sector data that there is to lend
 const ROOM: usize = 65536;
@@ -43,48 +43,45 @@ struct Turned {
     next: UsbOperation,
 }
 
-fn print(text: &[u8]) {
-    io::write_all(STDOUT_FILENO, text);
+fn print<W: Write>(to: &mut W, text: &[u8]) -> Result<()> {
+    to.write_all(text)
 }
 
-fn print_number(before: &[u8], number: u64, behind: &[u8]) {
-    print(before);
-    io::print_decimal(STDOUT_FILENO, number);
-    print(behind);
+fn print_number<W: Write>(to: &mut W, before: &[u8], number: u64, behind: &[u8]) -> Result<()> {
+    print(to, before)?;
+    write!(to, "{number}")?;
+    print(to, behind)
 }
 
-fn print_refused(number: u8) {
-    print_number(b"refused: ", number as u64, b"\n");
+fn print_refused<W: Write>(to: &mut W, number: u8) -> Result<()> {
+    print_number(to, b"refused: ", number as u64, b"\n")
 }
 
-fn print_transfer(transfer: SectorTransfer) {
+fn print_transfer<W: Write>(to: &mut W, transfer: SectorTransfer) -> Result<()> {
     match transfer {
         SectorTransfer::Whole(moved) => {
-            print_number(b"whole: ", moved.0 as u64, b" bytes moved\n");
+            print_number(to, b"whole: ", moved.0 as u64, b" bytes moved\n")
         }
         SectorTransfer::Short(short) => {
-            print_number(b"short: ", short.moved.0 as u64, b" of ");
-            print_number(b"", short.asked.0 as u64, b" bytes moved\n");
+            print_number(to, b"short: ", short.moved.0 as u64, b" of ")?;
+            print_number(to, b"", short.asked.0 as u64, b" bytes moved\n")
         }
     }
 }
 
-fn print_last(step: UsbStep) {
+fn print_last<W: Write>(to: &mut W, step: UsbStep) -> Result<()> {
     let number = step.number();
     let UsbStep::Finished(answer) = step else {
-        print_refused(number);
-        return;
+        return print_refused(to, number);
     };
     let FinishAnswer::Replied(reply) = answer else {
-        print_refused(number);
-        return;
+        return print_refused(to, number);
     };
     let UsbReply::Sectors(transfer) = reply else {
         // a write has no other reply
-        print(b"no transfer\n");
-        return;
+        return print(to, b"no transfer\n");
     };
-    print_transfer(transfer);
+    print_transfer(to, transfer)
 }
 
 // The finish, or a refusal.
@@ -109,37 +106,43 @@ fn turn(operation: UsbOperation, status: &[u8], sectors: &mut [u8; 65536]) -> Tu
     Turned { step, next }
 }
 
-fn carry_out(operation: UsbOperation, status: &[u8], sectors: &mut [u8; 65536]) {
+fn carry_out<W: Write>(
+    to: &mut W,
+    operation: UsbOperation,
+    status: &[u8],
+    sectors: &mut [u8; 65536],
+) -> Result<()> {
     let mut next = operation;
     for _ in 0..STEPS {
         let done = turn(next, status, sectors);
         let step = done.step;
         if is_last(step) {
-            print_last(step);
-            return;
+            return print_last(to, step);
         }
         next = done.next;
     }
-    print_refused(OUT_OF_STEPS);
+    print_refused(to, OUT_OF_STEPS)
 }
 
-fn tell(asked: Asked, status: &[u8], sectors: &mut [u8; 65536]) {
+fn tell<W: Write>(
+    to: &mut W,
+    asked: Asked,
+    status: &[u8],
+    sectors: &mut [u8; 65536],
+) -> Result<()> {
     if !asked.is_read {
-        print(b"unreadable line\n");
-        return;
+        return print(to, b"unreadable line\n");
     }
     let start = write_lba(asked.tag, 0, asked.size);
     let answer = start.answer;
     let number = answer.number();
     if number != 0 {
-        print_refused(number);
-        return;
+        return print_refused(to, number);
     }
     if asked.size > ROOM {
-        print(b"not tried: above 65536 bytes\n");
-        return;
+        return print(to, b"not tried: above 65536 bytes\n");
     }
-    carry_out(start.operation, status, sectors);
+    carry_out(to, start.operation, status, sectors)
 }
 
 // ` TAG ASKED STATUS`
@@ -161,35 +164,53 @@ fn read_line(line: &[u8], status: &mut [u8]) -> Asked {
     }
 }
 
-fn answer_line(line: &[u8], sectors: &mut [u8; 65536]) {
+fn answer_line<W: Write>(to: &mut W, line: &[u8], sectors: &mut [u8; 65536]) -> Result<()> {
     // a byte more than a status has, so that a longer one is seen
     let mut status = [0u8; 14];
     let asked = read_line(line, &mut status);
-    tell(asked, between(&status, 0, asked.came), sectors);
+    tell(to, asked, between(&status, 0, asked.came), sectors)
 }
 
 // The next line, behind the space that every number is read behind.
-fn next_spaced(block: &mut [u8; 65536], line: &mut [u8], before: Input) -> Input {
+fn next_spaced<R: Read>(
+    from: &mut R,
+    block: &mut [u8; 65536],
+    line: &mut [u8],
+    before: Input,
+) -> Input {
     let n = within(1, line);
-    next_line(block, &mut line[n..], before)
+    next_line(from, block, &mut line[n..], before)
 }
 
 // A proved loop has to end, and nothing says that the input does: no run uses up so many turns.
-fn run(block: &mut [u8; 65536], line: &mut [u8; 128], sectors: &mut [u8; 65536]) {
+fn run<R: Read, W: Write>(
+    from: &mut R,
+    to: &mut W,
+    block: &mut [u8; 65536],
+    line: &mut [u8; 128],
+    sectors: &mut [u8; 65536],
+) -> Result<()> {
     let mut input = start();
     for _ in 0..u64::MAX {
-        input = next_spaced(block, line, input);
+        input = next_spaced(from, block, line, input);
         if input.is_over {
-            return;
+            break;
         }
         let end = after(input.line_length(LONGEST), 1);
-        answer_line(between(line, 0, end), sectors);
+        answer_line(to, between(line, 0, end), sectors)?;
     }
+    Ok(())
 }
 
-fn main() {
+fn main(rt: HostRuntime) -> Result<()> {
     let mut block = [0u8; 65536];
     let mut line = [b' '; 128];
     let mut sectors = [0u8; 65536];
-    run(&mut block, &mut line, &mut sectors);
+    run(
+        &mut rt.stdin(),
+        &mut rt.stdout(),
+        &mut block,
+        &mut line,
+        &mut sectors,
+    )
 }

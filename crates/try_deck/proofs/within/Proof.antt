@@ -1,9 +1,0 @@
--- The lesser of the two is at most the length, and so is a count of the slice's bytes.
-use native.Mathlib.Omega.{arith}
-use lib.ListN.{length-take}
-use borrow.Author.Rules.{rules}
-use Rattle.try_deck.proofs.within.Statement.{statement}
-use Rattle.try_deck.proofs.within.Tie as tie
-
-pub within_spec : {M : Type 1} → statement M
-within_spec = tie.close (tie.spec (λ c. (omega arith, simp length-take (omega arith))) (λ c. (omega arith, simp length-take (omega arith))))
