@@ -1,6 +1,6 @@
 -- The step is one-to-one in the register: over the same bytes two registers come to the same only if they are the same. Two bytes count as they meet
 -- the register, so that over two bytes each, two equal registers come to the same only if the bytes are the same.
-use Prim.Native.Nat.{ℕ, zero, suc, ◌+◌, ◌*◌, ◌/◌, ◌%◌, ◌^◌, ◌<◌}
+use Prim.Native.Nat.{ℕ, zero, suc, ◌*◌, ◌/◌, ◌%◌, ◌^◌, ◌<◌}
 use mathlib.Core.Path.{◌≡◌, refl, ap, ap₂, sym, ◌∙◌}
 use mathlib.Core.List.{List, [], ◌∷◌}
 use native.Mathlib.Omega.{arith}

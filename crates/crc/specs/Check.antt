@@ -1,5 +1,5 @@
 -- CRC-16/IBM-3740, bit by bit: polynomial 0x1021, start 0xFFFF, nothing reflected, no final change, high bit first.
-use Rattle.std.specs.Prelude.{ℕ, zero, suc, ◌+◌, ◌*◌, ◌/◌, ◌%◌, ◌^◌, List, [], ◌∷◌}
+use Rattle.std.specs.Prelude.{ℕ, zero, suc, ◌*◌, ◌/◌, ◌%◌, ◌^◌, List, [], ◌∷◌}
 use Rattle.std.specs.Int.Bits.{bit_xor}
 
 abbrev pub polynomial : ℕ

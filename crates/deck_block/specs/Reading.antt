@@ -1,5 +1,5 @@
 -- What a block asks for, and its refusals in their order.
-use Rattle.std.specs.Prelude.{ℕ, ◌≤◌, ◌^◌, ◌<◌, Bool, not, true, false, List, [], ◌∷◌, length, eqb, ltb, ◌≡◌}
+use Rattle.std.specs.Prelude.{ℕ, ◌≤◌, ◌^◌, ◌<◌, not, true, false, List, [], ◌∷◌, length, eqb, ltb, ◌≡◌}
 use Rattle.promise.specs.Told.{Told, given, refused}
 use Rattle.promise.specs.Rules.{pick, rule, unless}
 use Rattle.promise.specs.Bytes.{field}

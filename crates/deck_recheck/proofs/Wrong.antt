@@ -1,5 +1,5 @@
 -- Programs that the contracts rule out, whatever their proofs: each answer is refuted at a named chunk.
-use Rattle.std.proofs.Common.{◌≡◌, ℕ, ◌≤◌, List, [], ◌∷◌, ◌++◌, length, get_or, replicate, sym, refl, ap, ◌∙◌, append-nil, arith, lit≤}
+use Rattle.std.proofs.Common.{◌≡◌, ℕ, List, [], ◌∷◌, ◌++◌, length, get_or, replicate, sym, refl, ap, ◌∙◌, append-nil, arith, lit≤}
 use Rattle.promise.specs.Told.{given, refused, number}
 use Rattle.promise.specs.Bytes.{front, low_first, high_first, from_low, from_high}
 use Rattle.crc.specs.Check.{bit_step, bits_step, byte_step, crc_over}

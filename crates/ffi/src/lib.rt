@@ -1,4 +1,4 @@
-// What C and Rust link: the proved functions over numbers, byte slices and a pair of counts, each with the contract of the one that it calls.
+// What `ffi_c` exports to C and Rust: the proved functions over numbers, byte slices and a pair of counts, each with the contract of the one that it calls.
 // `commands` has commands as numbers, `sectors` sector operations, `uploads` uploads to their end, `driving` the loops of an upload.
 
 #![tactic(auto)]
@@ -19,32 +19,28 @@ ghost use Rattle.ffi.specs.Sectors.{SectorsMeet, read_sectors, write_sectors};
 ghost use Rattle.ffi.specs.Command.{command_number};
 
 // The register after all of `bytes`.
-#[unsafe(no_mangle)]
-pub extern "C" fn otterarch_crc_update(crc: u16, bytes: &[u8]) -> u16
+pub fn otterarch_crc_update(crc: u16, bytes: &[u8]) -> u16
     ensures { result ≡ crc_over crc bytes.now }
 {
     crc::update(crc, bytes)
 }
 
 // The same a byte at a time by the 256-entry table, as the original does it.
-#[unsafe(no_mangle)]
-pub extern "C" fn otterarch_crc_update_by_table(crc: u16, bytes: &[u8]) -> u16
+pub fn otterarch_crc_update_by_table(crc: u16, bytes: &[u8]) -> u16
     ensures { result ≡ crc_over crc bytes.now }
 {
     crc::update_by_table(crc, bytes)
 }
 
 // A whole upload to its finish, each transfer at the front of `out`: 0 or the number of the refusal, 28 past `budget` steps.
-#[unsafe(no_mangle)]
-pub extern "C" fn otterarch_upload_whole(area: u16, image: &[u8], out: &mut [u8], budget: u32) -> u8
+pub fn otterarch_upload_whole(area: u16, image: &[u8], out: &mut [u8], budget: u32) -> u8
     ensures { DriveMeets result out.new (whole_drive area image.now out.old budget) }
 {
     crate::uploads::whole(area, image, out, budget)
 }
 
 // A whole upload in parts of `size` bytes, handed over by `budget` calls at most.
-#[unsafe(no_mangle)]
-pub extern "C" fn otterarch_upload_parts(
+pub fn otterarch_upload_parts(
     area: u16,
     size: usize,
     image: &[u8],
@@ -57,16 +53,14 @@ pub extern "C" fn otterarch_upload_parts(
 }
 
 // The command that reads `sectors` from sector `first`, into the first 24 bytes of `out`: 0 or 20.
-#[unsafe(no_mangle)]
-pub extern "C" fn otterarch_command_write(tag: u32, first: u32, sectors: u16, out: &mut [u8]) -> u8
+pub fn otterarch_command_write(tag: u32, first: u32, sectors: u16, out: &mut [u8]) -> u8
     ensures { (result ≡ number (write_command (read_lba_command tag first sectors) (length out.old)).told) × (out.new ≡ front (write_command (read_lba_command tag first sectors) (length out.old)).sent out.old) }
 {
     crate::commands::write_command(tag, first, sectors, out)
 }
 
 // Code, address and count of a command as one number, or the number of the refusal above them.
-#[unsafe(no_mangle)]
-pub extern "C" fn otterarch_command_read(bytes: &[u8]) -> u64
+pub fn otterarch_command_read(bytes: &[u8]) -> u64
     ensures { result ≡ command_number (read_command bytes.now) }
 {
     crate::commands::read_command(bytes)
@@ -74,8 +68,7 @@ pub extern "C" fn otterarch_command_read(bytes: &[u8]) -> u64
 
 // Sectors of the flash from `first` on into all of `data`: 0, or the number of the refusal.
 // At 0 `counts` has how many bytes were moved, then how many were asked for; at a refusal it is as it was.
-#[unsafe(no_mangle)]
-pub extern "C" fn otterarch_read_sectors(
+pub fn otterarch_read_sectors(
     first: u32,
     flash: &mut [u8],
     data: &mut [u8],
@@ -88,8 +81,7 @@ pub extern "C" fn otterarch_read_sectors(
 
 // All of `data` to the flash from sector `first` on: 0, or the number of the refusal.
 // At 0 `counts` has how many bytes were moved, then how many were asked for; at a refusal it is as it was.
-#[unsafe(no_mangle)]
-pub extern "C" fn otterarch_write_sectors(
+pub fn otterarch_write_sectors(
     first: u32,
     flash: &mut [u8],
     data: &[u8],

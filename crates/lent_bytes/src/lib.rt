@@ -2,14 +2,14 @@
 
 #![tactic(auto)]
 
-ghost use Rattle.std.specs.Prelude.{◌≡◌, ◌≤◌, length};
-ghost use Rattle.promise.specs.Bytes.{front};
+ghost use Rattle.std.specs.Prelude.{◌≡◌, ◌≤◌, ◌++◌, length, take, drop};
 
 // Puts `from` at the front of `to`, leaves every other byte, and says how many it put.
 pub fn copy(from: &[u8], to: &mut [u8]) -> usize
     requires { length from.now ≤ length to.old }
     ensures count { result ≡ length from.now }
-    ensures after { to.new ≡ front from.now to.old }
+    ensures after { to.new
+        ≡ take (length from.now) from.now ++ drop (length from.now) to.old }
 {
     let n = from.len();
     to[..n].copy_from_slice(from);

@@ -6,7 +6,7 @@ use borrow.Author.Tests.{lt-ltb, le-ltb}
 use native.Mathlib.Omega.{arith}
 use lib.ListN.{length, take, drop, length-drop}
 use lib.Seq.{take_all}
-use Rattle.promise.specs.Told.{Told, given, refused, and_then}
+use Rattle.promise.specs.Told.{Told, given, and_then}
 use Rattle.promise.specs.Rules.{or_refuse}
 use Rattle.promise.specs.Bytes.{field}
 use Rattle.protocol_bytes.specs.Signature.{signature_in}

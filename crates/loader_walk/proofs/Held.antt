@@ -14,8 +14,7 @@ use Rattle.loader_records.specs.declared.list.RkBootHeaderEntry.{RkBootHeaderEnt
 use Rattle.loader_records.specs.declared.header.RkBootHeader.{RkBootHeader}
 use Rattle.loader_records.specs.Records.{entry_length, read_header, header_of, list_of, short_rule, tag_rule}
 use Rattle.loader_walk.specs.declared.walk.Walk.{Walk}
-use Rattle.loader_walk.specs.declared.walk.WalkAnswer.TheVariants as walk
-use Rattle.loader_walk.specs.Entries.{Found, found, lookups, list_from, rest_of, all, entries_of, start_of, entry_at, data_of, list_at}
+use Rattle.loader_walk.specs.Entries.{Found, lookups, list_from, rest_of, all, entries_of, start_of, entry_at, data_of, list_at}
 use Rattle.loader_walk.specs.Walking.{entry}
 use Rattle.loader_walk.specs.Calls.{Finds, Walked, Held, Stands}
 use Rattle.loader_walk.proofs.Ahead.{looked, given_same}

@@ -105,6 +105,7 @@ pub struct WholeStepped {
 
 impl PartStep {
     // The answer's number in the rules, 0 where it gives something.
+    #[tactic(auto, unfolding(promise::specs::Told::number, crate::specs::Answers::part_told))]
     pub fn number(self) -> u8
         ensures { result ≡ number (part_told self) }
     {
@@ -120,6 +121,7 @@ impl PartStep {
 
 impl UploadStep {
     // The answer's number in the rules, 0 where it gives something.
+    #[tactic(auto, unfolding(promise::specs::Told::number, crate::specs::Answers::step_told))]
     pub fn number(self) -> u8
         ensures { result ≡ number (step_told self) }
     {
@@ -134,6 +136,7 @@ impl UploadStep {
 
 impl UploadStart {
     // The answer's number in the rules, 0 where it gives something.
+    #[tactic(auto, unfolding(promise::specs::Told::number, crate::specs::Answers::start_told))]
     pub fn number(self) -> u8
         ensures { result ≡ number (start_told self) }
     {
@@ -163,6 +166,7 @@ fn control_of(area: u16, size: usize) -> Control
 }
 
 // What is asked of the transport: a control write, or nothing any more.
+#[tactic(auto, unfolding(crate::specs::Answers::step_told, crate::specs::PartWise::asks))]
 fn asked(steps: MaskRomSteps, area: u16, size: usize) -> UploadStep
     ensures { step_told result ≡ given (asks steps area size) }
 {
@@ -218,6 +222,7 @@ impl MaskRomOperation {
     }
 
     // Hands over the next bytes of the image.
+    #[tactic(auto, unfolding(crate::specs::Answers::part_told, crate::specs::PartWise::part_step, crate::specs::PartWise::closed, promise::specs::Rules::or_refuse, promise::specs::Does::said, promise::specs::Does::sent, promise::specs::Does::after))]
     pub fn part(self, part: &[u8], out: &mut [u8]) -> PartStepped
         ensures { PartMeets result self part.now out.old out.new }
     {
@@ -292,6 +297,7 @@ fn new_whole(area: u16, length: u32) -> WholeUpload
 }
 
 // Starts the upload of a whole image.
+#[tactic(auto, unfolding(crate::specs::Answers::start_told, crate::specs::Whole::start_step, promise::specs::Rules::or_refuse, promise::specs::Does::said, promise::specs::Does::after))]
 pub fn write_area(area: u16, image: &[u8]) -> WholeStart
     ensures { StartMeets result area image.now }
 {
@@ -311,6 +317,7 @@ pub fn write_area(area: u16, image: &[u8]) -> WholeStart
 }
 
 // How many bytes of the image go with the next step, of those that are left.
+#[tactic(auto, unfolding(crate::specs::Whole::most))]
 fn chunk_size(steps: MaskRomSteps, left: usize) -> usize
     ensures { result ≡ min (most steps) left }
 {
@@ -368,6 +375,7 @@ impl WholeUpload {
     }
 
     // The next transfer of the image, or the finish.
+    #[tactic(auto, unfolding(crate::specs::Answers::step_told, crate::specs::Whole::whole_step, promise::specs::Rules::or_refuse, promise::specs::Does::said, promise::specs::Does::sent, promise::specs::Does::after))]
     pub fn step(self, image: &[u8], out: &mut [u8]) -> WholeStepped
         ensures { StepMeets result self image.now out.old out.new }
     {

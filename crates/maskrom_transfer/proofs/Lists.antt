@@ -1,5 +1,5 @@
 -- Laws on lists that the library lacks.
-use Prim.Native.Nat.{ℕ, suc, ◌+◌, ◌<◌, ◌/◌, ◌%◌, min}
+use Prim.Native.Nat.{ℕ, suc, ◌<◌, ◌/◌, ◌%◌, min}
 use mathlib.Core.Path.{◌≡◌, ap, sym, ◌∙◌}
 use mathlib.Core.List.{List, [], ◌∷◌, ◌++◌, append_assoc}
 use native.Mathlib.Omega.{arith}

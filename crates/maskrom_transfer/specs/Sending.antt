@@ -1,5 +1,5 @@
 -- One transfer put into the output, or the refusal of an output that is too short for any.
-use Rattle.std.specs.Prelude.{ℕ, List, [], ◌∷◌, length, ltb}
+use Rattle.std.specs.Prelude.{ℕ, List, [], ◌∷◌, length}
 use Rattle.promise.specs.Told.{Told, given, refused}
 use Rattle.promise.specs.Rules.{unless, room_rule, too_short}
 use Rattle.maskrom_transfer.specs.declared.MaskRomSteps.{MaskRomSteps}

@@ -36,6 +36,7 @@ pub enum Sent {
 
 impl Sent {
     // The answer's number in the rules, 0 where it gives something.
+    #[tactic(auto, unfolding(promise::specs::Told::number, crate::specs::Sending::sent_told))]
     pub fn number(self) -> u8
         ensures { result ≡ number (sent_told self) }
     {
@@ -143,6 +144,7 @@ fn send_at(steps: MaskRomSteps, crc: u16, bytes: &[u8], out: &mut [u8]) -> Moved
 
 // One step of an image: the first 4,096 of the bytes are the next of it, all that is left where they are fewer, and the check covers the image to
 // their end. They are copied straight into the output, and the transfer is put together there.
+#[tactic(auto, unfolding(crate::specs::Sending::sent_told, crate::specs::Sending::send_step, promise::specs::Rules::or_refuse, promise::specs::Does::said, promise::specs::Does::sent, promise::specs::Does::after))]
 pub fn send_lent(steps: MaskRomSteps, crc: u16, bytes: &[u8], out: &mut [u8]) -> Sent
     ensures { Meets (sent_told result) tt out.old out.new tt (send_step steps crc (take block_size bytes.now) (length out.old)) }
 {

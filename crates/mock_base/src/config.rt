@@ -18,6 +18,7 @@ pub struct MockDeviceConfig {
 }
 
 impl MockDeviceConfig {
+    #[tactic(auto, unfolding(crate::specs::Config::default_config))]
     pub fn default() -> MockDeviceConfig
         ensures { result ≡ default_config }
     {

@@ -93,6 +93,7 @@ impl MockTransportError {
 
 impl MockResult {
     // 0 where the call was done.
+    #[tactic(auto, unfolding(promise::specs::Told::number, crate::specs::Told::result_told))]
     pub fn number(self) -> u8
         ensures { (signature : List ℕ) → result ≡ number (result_told self signature) }
     {

@@ -31,6 +31,7 @@ pub enum RangeAnswer {
 
 impl FlashSectors {
     // 0 for a flash of whole sectors.
+    #[tactic(auto, unfolding(promise::specs::Told::number, crate::specs::Flash::size_told))]
     pub fn number(self) -> u8
         ensures { result ≡ number (size_told self) }
     {
@@ -43,6 +44,7 @@ impl FlashSectors {
 
 impl RangeAnswer {
     // 0 for a range that fits, else 57.
+    #[tactic(auto, unfolding(promise::specs::Told::number, crate::specs::Flash::range_told))]
     pub fn number(self) -> u8
         ensures { result ≡ number (range_told self) }
     {
@@ -53,6 +55,7 @@ impl RangeAnswer {
     }
 }
 
+#[tactic(auto, unfolding(promise::specs::Rules::or_refuse, crate::specs::Told::error_values, crate::specs::Flash::flash_rules, crate::specs::Flash::size_told, crate::specs::Flash::flash_sectors))]
 pub fn flash_sectors(length: usize) -> FlashSectors
     ensures { size_told result ≡ flash_sectors length }
 {
@@ -82,6 +85,7 @@ pub fn size_answer(size: FlashSectors) -> MockAnswer
     }
 }
 
+#[tactic(auto, unfolding(promise::specs::Rules::or_refuse, crate::specs::Flash::fits_in, crate::specs::Flash::range_in, crate::specs::Flash::range_told))]
 pub fn flash_range(sectors: usize, start_sector: u32, count: u16) -> RangeAnswer
     ensures { range_told result ≡ range_in sectors start_sector count }
 {

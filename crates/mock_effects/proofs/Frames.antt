@@ -21,10 +21,9 @@ use Rattle.mock_table.specs.declared.outcome.Effect.TheVariants.{Nothing, Fill, 
 use Rattle.mock_table.proofs.Sane.{write_sane, read_sane}
 use Rattle.mock_table.proofs.FirstVariety.{NoProgram}
 use Rattle.mock_table.proofs.Own.{Within, command_of, write_own}
-use Rattle.protocol_codes.specs.declared.Status as pending
-use Rattle.protocol_codes.specs.declared.Status.TheVariants.{SUCCESS, FAILED}
+use Rattle.protocol_codes.specs.declared.Status.TheVariants.{SUCCESS}
 use Rattle.mock_effects.specs.Effects.{erased, programmed, flash_after, pending_after, buffer_after}
-use Rattle.mock_effects.specs.Steps.{failed, pend, pended, write_step_of, write_step_by, read_step_of, read_step_by, Untouched}
+use Rattle.mock_effects.specs.Steps.{pend, pended, write_step_of, write_step_by, read_step_of, read_step_by, Untouched}
 use Rattle.mock_base.specs.declared.cells.Variety.{Variety}
 use Rattle.mock_base.specs.declared.config.MockDeviceConfig.{MockDeviceConfig}
 use Rattle.mock_effects.proofs.Lengths.{taken}

@@ -1,6 +1,6 @@
 -- What was written and told success is read back. A NOR write that was told FAILED has left old AND new.
 use Prim.Native.Nat.{ℕ, ◌+◌, ◌*◌, ◌≤◌}
-use mathlib.Core.Path.{◌≡◌, refl, ap, ap₂, sym, ◌∙◌}
+use mathlib.Core.Path.{◌≡◌, refl, ap, ◌∙◌}
 use mathlib.Core.List.{List, append-nil}
 use native.Mathlib.Omega.{arith}
 use lib.ListN.{length, drop, drop_of_length-le}
@@ -19,13 +19,12 @@ use Rattle.mock_base.specs.declared.cells.Variety.TheVariants.{First, Nor}
 use Rattle.mock_base.proofs.Fitting.{fits_sectors}
 use Rattle.mock_table.specs.Turn.{Turn, done}
 use Rattle.mock_table.specs.Ways.{stored_by, moved_by}
-use Rattle.mock_table.specs.Table.{range_of}
 use Rattle.mock_table.specs.declared.session.CommandState.{CommandState}
-use Rattle.mock_table.specs.declared.session.CommandState.TheVariants.{None, IO, Status}
+use Rattle.mock_table.specs.declared.session.CommandState.TheVariants.{IO, Status}
 use Rattle.mock_table.specs.declared.session.Session.{Session}
 use Rattle.mock_table.proofs.Accepted.{write_accepted, read_accepted}
-use Rattle.mock_effects.specs.Effects.{programmed, flash_after, pending_after, buffer_after}
-use Rattle.mock_effects.specs.Steps.{failed, pend, pended, write_step_of, write_step_by, read_step_of, read_step_by, written_flash, written_status}
+use Rattle.mock_effects.specs.Effects.{flash_after, pending_after, buffer_after}
+use Rattle.mock_effects.specs.Steps.{failed, pend, write_step_of, write_step_by, read_step_of, read_step_by, written_flash, written_status}
 use Rattle.mock_base.specs.declared.config.MockDeviceConfig.{MockDeviceConfig}
 use Rattle.mock_effects.proofs.Lengths.{taken}
 use Rattle.mock_effects.proofs.Programming.{told_success}

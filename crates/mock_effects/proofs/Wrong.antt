@@ -27,7 +27,7 @@ use Rattle.mock_table.specs.declared.session.CommandState.TheVariants.{None, IO,
 use Rattle.mock_table.specs.declared.session.LastReset.{LastReset}
 use Rattle.mock_table.specs.declared.session.Session.{Session}
 use Rattle.mock_base.specs.declared.cells.Variety.{Variety}
-use Rattle.mock_base.specs.declared.cells.Variety.TheVariants.{First, Nor}
+use Rattle.mock_base.specs.declared.cells.Variety.TheVariants.{Nor}
 use Rattle.mock_base.specs.declared.config.MockDeviceConfig.{MockDeviceConfig}
 use Rattle.mock_effects.specs.Effects.{programmed, cells_told, flash_after, pending_after, reply_bytes, buffer_after}
 use Rattle.mock_effects.specs.Steps.{Step, failed, pend, pended, write_step_of, write_step_by, write_step, read_step_of, read_step_by, read_step, StepMeets}

@@ -24,6 +24,7 @@ pub struct SessionStep {
     pub session: Session,
 }
 
+#[tactic(auto, unfolding(crate::specs::Steps::failed))]
 fn failed(state: CommandState) -> CommandState
     ensures { result ≡ failed state }
 {
@@ -34,6 +35,7 @@ fn failed(state: CommandState) -> CommandState
     }
 }
 
+#[tactic(auto, unfolding(crate::specs::Steps::pend))]
 fn pend(status: Status, state: CommandState) -> CommandState
     ensures { result ≡ pend status state }
 {

@@ -1,6 +1,6 @@
 -- Of the first variety no turn leaves a FAILED status pending, and none programs.
 use Prim.Native.Nat.{ℕ, ◌*◌}
-use mathlib.Core.Path.{◌≡◌, refl}
+use mathlib.Core.Path.{refl}
 use mathlib.Core.Bool.{not}
 use mathlib.Core.List.{List, [], ◌∷◌}
 use lib.Dec.{eqb}

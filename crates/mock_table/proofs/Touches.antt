@@ -2,12 +2,12 @@
 -- erase that splits a block, and of nothing else.
 use Prim.Native.Nat.{ℕ, ◌*◌}
 use mathlib.Core.Path.{◌≡◌, refl, ap, sym, ◌∙◌}
-use mathlib.Core.Bool.{true, false, not}
+use mathlib.Core.Bool.{true, not}
 use mathlib.Core.List.{List, [], ◌∷◌}
 use native.Mathlib.Omega.{arith}
 use lib.Dec.{eqb}
 use lib.ListN.{length}
-use borrow.Author.Tests.{eqb-true, not-true, not-false, eq-eqb}
+use borrow.Author.Tests.{eqb-true, not-false, eq-eqb}
 use Rattle.promise.specs.Told.{Told, given, refused, number}
 use Rattle.promise.specs.Rules.{or_refuse}
 use Rattle.promise.proofs.Outcome.{by_test}

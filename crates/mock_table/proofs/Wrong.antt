@@ -13,7 +13,7 @@ use Rattle.protocol_codes.specs.declared.StorageIndex.TheVariants.{SpiNor, Emmc}
 use Rattle.protocol_codes.specs.declared.Status as pending
 use Rattle.protocol_codes.specs.declared.Status.TheVariants.{SUCCESS, FAILED}
 use Rattle.protocol.specs.Commands.{sector_command, write_lba_command, chip_info_command, erase_lba_command, erase_force_command, storage_command, switch_command}
-use Rattle.protocol.specs.CommandBytes.{command_bytes, read_command, BlockFits}
+use Rattle.protocol.specs.CommandBytes.{command_bytes, BlockFits}
 use Rattle.protocol.specs.declared.CommandBlock.{CommandBlock}
 use Rattle.protocol.proofs.Trips.{reads_back}
 use Rattle.mock_base.specs.Flash.{fits_in}

@@ -1,6 +1,6 @@
 -- Which erases are taken, and which 63 refuses.
 use Rattle.std.specs.Prelude.{ℕ, ◌≡◌, true, false, List, []}
-use Rattle.promise.specs.Told.{Told, given, refused}
+use Rattle.promise.specs.Told.{Told, refused}
 use Rattle.protocol.specs.CommandBytes.{read_command}
 use Rattle.protocol.specs.declared.CommandBlock.{CommandBlock}
 use Rattle.mock_base.specs.Flash.{fits_in}

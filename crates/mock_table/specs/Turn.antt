@@ -11,7 +11,6 @@ use Rattle.protocol_codes.specs.declared.Direction.TheVariants.{In, Out}
 use Rattle.protocol_bytes.specs.Sector.{sector_size}
 use Rattle.protocol.specs.declared.CommandBlock.{CommandBlock}
 use Rattle.mock_base.specs.Told.{Answers}
-use Rattle.mock_base.specs.declared.range.FlashRange.{FlashRange}
 use Rattle.mock_table.specs.declared.session.CommandState.{CommandState}
 use Rattle.mock_table.specs.declared.session.CommandState.TheVariants as state
 use Rattle.mock_table.specs.declared.session.LastReset.{LastReset}

@@ -1,5 +1,5 @@
 -- What the table asks of the flash's variety: how it stores, which erases it takes, whether it knows the switch, whether it tells its storage.
-use Rattle.std.specs.Prelude.{ℕ, ◌%◌, Bool, true, false, not, eqb}
+use Rattle.std.specs.Prelude.{ℕ, ◌%◌, Bool, false, not, eqb}
 use Rattle.promise.specs.Rules.{pick}
 use Rattle.protocol_codes.specs.declared.CommandCode.TheVariants.{GetStorageMedia, SwitchStorage}
 use Rattle.protocol_codes.specs.declared.Direction.{Direction}

@@ -12,6 +12,7 @@ use mock_base::error::MockTransportError;
 use protocol::CommandBlock;
 use protocol_codes::{CommandCode, Direction, Status};
 
+#[tactic(auto, unfolding(crate::specs::Turn::reply_size))]
 fn reply_size(reply: ReplyKind) -> usize
     ensures { result ≡ reply_size reply }
 {

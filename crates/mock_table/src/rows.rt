@@ -47,6 +47,7 @@ pub(crate) fn settle(state: CommandState, reset: LastReset, effect: Effect) -> O
     }
 }
 
+#[tactic(auto, unfolding(crate::specs::Turn::has_code))]
 pub(crate) fn has_code(command: CommandBlock, code: CommandCode) -> bool
     ensures { result ≡ has_code command code }
 {

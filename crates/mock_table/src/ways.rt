@@ -11,6 +11,7 @@ use protocol_codes::{CommandCode, Direction, Status};
 
 const NOR_STORAGE: u8 = 4;
 
+#[tactic(auto, unfolding(crate::specs::Ways::stored_by))]
 fn stored_by(variety: Variety, range: FlashRange) -> Effect
     ensures { result ≡ stored_by variety range }
 {
@@ -20,6 +21,7 @@ fn stored_by(variety: Variety, range: FlashRange) -> Effect
     }
 }
 
+#[tactic(auto, unfolding(crate::specs::Ways::moved_by))]
 pub(crate) fn moved_by(variety: Variety, direction: Direction, range: FlashRange) -> Effect
     ensures { result ≡ moved_by variety direction range }
 {
@@ -29,6 +31,7 @@ pub(crate) fn moved_by(variety: Variety, direction: Direction, range: FlashRange
     }
 }
 
+#[tactic(auto, unfolding(crate::specs::Ways::is_multiple))]
 fn is_multiple(n: u32, block_size: u16) -> bool
     ensures { result ≡ is_multiple n block_size }
 {
@@ -38,6 +41,7 @@ fn is_multiple(n: u32, block_size: u16) -> bool
     n % (block_size as u32) == 0
 }
 
+#[tactic(auto, unfolding(crate::specs::Ways::splits))]
 pub(crate) fn splits(variety: Variety, block_size: u16, command: CommandBlock) -> bool
     ensures { result ≡ splits variety block_size command }
 {
@@ -50,6 +54,7 @@ pub(crate) fn splits(variety: Variety, block_size: u16, command: CommandBlock) -
     !is_multiple(command.cd_length as u32, block_size)
 }
 
+#[tactic(auto, unfolding(crate::specs::Ways::switches))]
 pub(crate) fn switches(variety: Variety, command: CommandBlock) -> bool
     ensures { result ≡ switches variety command }
 {
@@ -59,6 +64,7 @@ pub(crate) fn switches(variety: Variety, command: CommandBlock) -> bool
     }
 }
 
+#[tactic(auto, unfolding(crate::specs::Ways::switched))]
 pub(crate) fn switched(opcode: u8) -> Status
     ensures { result ≡ switched opcode }
 {
@@ -68,6 +74,7 @@ pub(crate) fn switched(opcode: u8) -> Status
     Status::FAILED
 }
 
+#[tactic(auto, unfolding(crate::specs::Ways::tells_storage))]
 pub(crate) fn tells_storage(variety: Variety, command: CommandBlock) -> bool
     ensures { result ≡ tells_storage variety command }
 {

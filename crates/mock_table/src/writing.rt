@@ -15,6 +15,7 @@ use mock_base::range::{RangeAnswer, flash_range};
 use protocol::{CommandAnswer, CommandBlock, CommandBlockParseError};
 use protocol_codes::{CommandCode, Direction, ResetOpcode, ResetRead, Status};
 
+#[tactic(auto, unfolding(crate::specs::Turn::is_erase))]
 fn is_erase(command: CommandBlock) -> bool
     ensures { result ≡ is_erase command }
 {

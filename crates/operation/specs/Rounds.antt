@@ -1,5 +1,5 @@
 -- Turns that a caller takes with an operation: a step each, and givings behind it.
-use Rattle.std.specs.Prelude.{ℕ, ◌≤◌, List, [], ◌∷◌, length}
+use Rattle.std.specs.Prelude.{ℕ, ◌≤◌, List, [], ◌∷◌}
 use Rattle.operation.specs.declared.steps.UsbOperation.{UsbOperation}
 use Rattle.operation.specs.Step.{usb_step}
 use Rattle.operation.specs.Give.{usb_give}

@@ -21,6 +21,7 @@ pub enum Giving {
 
 impl Giving {
     // Its number in the rules, 0 where the bytes were taken.
+    #[tactic(auto, unfolding(promise::specs::Told::number, crate::specs::Give::giving_told))]
     pub fn number(self) -> u8
         ensures { result ≡ number (giving_told self) }
     {
@@ -55,6 +56,7 @@ impl UsbOperation {
         UsbGiven { answer, next: self }
     }
 
+    #[tactic(auto, unfolding(crate::specs::Give::give_of, crate::specs::Give::nothing_asked, crate::specs::Give::asks_for, crate::specs::Give::owed, crate::specs::Give::received, crate::specs::Give::giving_told, promise::specs::Rules::or_refuse))]
     fn give_inband(self, bytes: &[u8]) -> UsbGiven
         ensures { (lent : List ℕ) → GiveMeets result lent lent (give_of Asked.Inband self bytes.now (length lent)) }
     {
@@ -66,6 +68,7 @@ impl UsbOperation {
         self.with_inband(data).gives(Giving::Taken)
     }
 
+    #[tactic(auto, unfolding(crate::specs::Give::give_of, crate::specs::Give::nothing_asked, crate::specs::Give::asks_for, crate::specs::Give::owed, crate::specs::Give::received, crate::specs::Give::giving_told, promise::specs::Rules::or_refuse))]
     fn give_sectors(self, bytes: &[u8], data: &mut [u8]) -> UsbGiven
         ensures { GiveMeets result «data».old «data».new (give_of Asked.Sectors self bytes.now (length «data».old)) }
     {
@@ -81,6 +84,7 @@ impl UsbOperation {
         self.turned_to(next, Asked::Nothing).gives(Giving::Taken)
     }
 
+    #[tactic(auto, unfolding(crate::specs::Give::give_of, crate::specs::Give::nothing_asked, crate::specs::Give::asks_for, crate::specs::Give::owed, crate::specs::Give::received, crate::specs::Give::giving_told, promise::specs::Rules::or_refuse))]
     fn give_status(self, bytes: &[u8]) -> UsbGiven
         ensures { (lent : List ℕ) → GiveMeets result lent lent (give_of Asked.Status self bytes.now (length lent)) }
     {
@@ -93,6 +97,7 @@ impl UsbOperation {
     }
 
     // Received bytes, for the read that the last step asked for. A sector read's go into the caller's data.
+    #[tactic(auto, unfolding(crate::specs::Give::give_of, crate::specs::Give::nothing_asked, crate::specs::Give::asks_for, crate::specs::Give::owed, crate::specs::Give::received, crate::specs::Give::giving_told, promise::specs::Rules::or_refuse))]
     pub fn give(self, bytes: &[u8], data: &mut [u8]) -> UsbGiven
         ensures { GiveMeets result «data».old «data».new (usb_give self bytes.now (length «data».old)) }
     {

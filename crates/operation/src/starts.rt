@@ -73,6 +73,7 @@ pub fn switch_storage(tag: u32, index: StorageIndex) -> UsbOperation
 }
 
 // A refusal stands beside an operation over no sectors.
+#[tactic(auto, unfolding(crate::specs::Start::sectors_or0, protocol_reply::specs::Sectors::sector_told))]
 fn sectors_or_0(answer: SectorAnswer) -> u16
     ensures { result ≡ sectors_or0 (sector_told answer) }
 {

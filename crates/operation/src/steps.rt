@@ -68,6 +68,7 @@ pub enum UsbStep {
 
 impl UsbStep {
     // Its number in the rules: 0 for what a step asks for and for a reply.
+    #[tactic(auto, using(crate::proofs::Numbered::finished_number), unfolding(promise::specs::Told::number, crate::specs::Step::step_told))]
     pub fn number(self) -> u8
         ensures { (b : Beside) → result ≡ number (step_told self b) }
     {
@@ -117,6 +118,7 @@ fn io_of(kind: Kind) -> IOBytes
 }
 
 // "data if the transfer length isn't 0"
+#[tactic(auto, unfolding(crate::specs::Record::after_command))]
 fn after_command(length: u32) -> Operation
     ensures { result ≡ after_command length }
 {
@@ -225,6 +227,7 @@ impl UsbOperation {
             .answers(step)
     }
 
+    #[tactic(auto, unfolding(crate::specs::Step::io_step, crate::specs::Step::step_told, crate::specs::Step::beside_at, crate::specs::Step::beside_asks, promise::specs::Rules::or_refuse, operation_finish::specs::Reply::beside_of, protocol_bytes::specs::Signature::signature_in))]
     fn io_step(self, lent: usize) -> UsbStepped
         ensures { (out : List ℕ) → StepMeets result out out (io_step (io_of self.kind) self lent) }
     {
@@ -242,6 +245,7 @@ impl UsbOperation {
         }
     }
 
+    #[tactic(auto, unfolding(crate::specs::Step::status_step, crate::specs::Step::step_told, crate::specs::Step::beside_at, crate::specs::Step::beside_asks))]
     fn status_step(self) -> UsbStepped
         ensures { (out : List ℕ) → StepMeets result out out (status_step self) }
     {
@@ -249,6 +253,7 @@ impl UsbOperation {
             .answers(UsbStep::ReadStatus(STATUS))
     }
 
+    #[tactic(auto, using(crate::proofs::Cases::finish_meets), unfolding(crate::specs::Step::finish_step, crate::specs::Step::step_told))]
     fn finish_step(self) -> UsbStepped
         ensures { (out : List ℕ) → StepMeets result out out (finish_step self) }
     {
@@ -273,6 +278,7 @@ impl UsbOperation {
     }
 
     // The next step. The caller's data is looked at for its length alone, and only where the operation is over sectors.
+    #[tactic(auto, unfolding(crate::specs::Step::step_of))]
     pub fn step(self, data: &[u8], out: &mut [u8]) -> UsbStepped
         ensures { StepMeets result out.old out.new (usb_step self (length «data».now) (length out.old)) }
     {

@@ -66,6 +66,7 @@ pub enum FinishAnswer {
 
 impl FinishAnswer {
     // Its number in the rules: 0 for a reply, 10 to 15.
+    #[tactic(auto, unfolding(promise::specs::Told::number, crate::specs::Reply::finish_told))]
     pub fn number(self) -> u8
         ensures { (b : Beside) → result ≡ number (finish_told self b) }
     {
@@ -194,6 +195,7 @@ fn capability_of(inband: [u8; 16]) -> Finished
     }
 }
 
+#[tactic(auto, unfolding(promise::specs::Told::and_then, crate::specs::Finish::storage_reply, protocol_reply::specs::Media::storage_told, crate::specs::Reply::finish_told, crate::specs::Reply::reply_given, crate::specs::Reply::beside_of, crate::specs::Reply::beside_reply, protocol_status::specs::Failure::failure_number, protocol_status::specs::Failure::failure_values, protocol_bytes::specs::Signature::signature_in))]
 fn storage_of(inband: [u8; 16]) -> Finished
     ensures { FinishMeets result (storage_reply inband) }
 {
@@ -205,6 +207,7 @@ fn storage_of(inband: [u8; 16]) -> Finished
     replied(UsbReply::Storage(index))
 }
 
+#[tactic(auto, unfolding(promise::specs::Told::and_then, promise::specs::Rules::or_refuse, crate::specs::Finish::sectors_by, crate::specs::Transfer::transfer_of, crate::specs::Reply::finish_told, crate::specs::Reply::reply_given, crate::specs::Reply::beside_of, crate::specs::Reply::beside_reply, protocol_status::specs::Failure::failure_number, protocol_status::specs::Failure::failure_values, protocol_bytes::specs::Signature::signature_in))]
 fn sectors_of(length: u32, residue: u32) -> Finished
     ensures { FinishMeets result (sector_reply length residue) }
 {
@@ -221,6 +224,7 @@ fn sectors_of(length: u32, residue: u32) -> Finished
 }
 
 // The answer of an operation that went well.
+#[tactic(auto, unfolding(crate::specs::Finish::reply_by, crate::specs::Reply::finish_told, crate::specs::Reply::reply_given, crate::specs::Reply::beside_of, crate::specs::Reply::beside_reply))]
 fn reply_of(kind: Kind, length: u32, residue: u32, inband: [u8; 16]) -> Finished
     ensures { FinishMeets result (reply_of kind length residue inband) }
 {

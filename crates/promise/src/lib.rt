@@ -1,4 +1,3 @@
 // The vocabulary of every contract: definitions in specs/, laws in proofs/, no code.
 
 #![tactic(auto)]
-

@@ -55,6 +55,7 @@ pub enum CommandBlockParseError {
 
 impl CommandBlockParseError {
     // Its number in the rules.
+    #[tactic(auto, unfolding(crate::specs::CommandMeets::command_error_number))]
     pub fn number(self) -> u8
         ensures { result ≡ command_error_number self }
     {
@@ -75,6 +76,7 @@ pub enum CommandAnswer {
 
 impl CommandAnswer {
     // Its number in the rules, 0 where a command was read.
+    #[tactic(auto, unfolding(promise::specs::Told::number, crate::specs::CommandMeets::command_told, crate::specs::CommandMeets::command_error_number))]
     pub fn number(self) -> u8
         ensures { (signature : List ℕ) → result ≡ number (command_told self signature) }
     {
@@ -161,6 +163,7 @@ fn parsed(answer: CommandAnswer) -> CommandParse
 }
 
 // The block that stands in at least 31 bytes, its direction and code already read.
+#[tactic(auto, using(protocol_bytes::proofs::Short::field_elements), unfolding(crate::specs::CommandBytes::block_of))]
 fn block_of(bytes: &[u8], flags: Direction, code: CommandCode) -> CommandBlock
     requires { 31 ≤ length bytes.now }
     ensures { result ≡ block_of bytes.now flags code }
@@ -310,6 +313,7 @@ impl CommandBlock {
         self.cd_length
     }
 
+    #[tactic(auto, unfolding(promise::specs::Bytes::low_first, promise::specs::Bytes::high_first, crate::specs::CommandBytes::command_bytes))]
     fn bytes(self) -> [u8; 24]
         ensures { result ≡ command_bytes self }
     {
@@ -348,6 +352,7 @@ impl CommandBlock {
     }
 
     // Fills the first 24 bytes and answers 31: the rest is the caller's.
+    #[tactic(auto, unfolding(crate::specs::CommandBytes::write_command, protocol_bytes::specs::Writing::writing, protocol_bytes::specs::Writing::written_told, promise::specs::Rules::or_refuse))]
     pub fn to_bytes(self, out: &mut [u8]) -> Written
         ensures write_meets { WriteMeets result out.old out.new (write_command self (length out.old)) }
         ensures block_fits { BlockFits self }

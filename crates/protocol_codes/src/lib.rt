@@ -24,6 +24,7 @@ pub enum DirectionRead {
 
 impl DirectionRead {
     // Its number in the rules, 0 where the byte is a direction.
+    #[tactic(auto, unfolding(promise::specs::Told::number, crate::specs::Reading::direction_read_told))]
     pub fn number(self) -> u8
         ensures { result ≡ told.number (direction_read_told self) }
     {
@@ -44,6 +45,7 @@ impl Direction {
         }
     }
 
+    #[tactic(auto, unfolding(crate::specs::Reading::by_number, crate::specs::Reading::known, crate::specs::Reading::direction_of, crate::specs::Reading::direction_read_told))]
     pub fn from_number(number: u8) -> DirectionRead
         ensures { direction_read_told result ≡ direction_of number }
     {
@@ -96,6 +98,7 @@ pub enum CodeRead {
 
 impl CodeRead {
     // Its number in the rules, 0 where the byte is a code.
+    #[tactic(auto, unfolding(promise::specs::Told::number, crate::specs::Reading::code_read_told))]
     pub fn number(self) -> u8
         ensures { result ≡ told.number (code_read_told self) }
     {
@@ -141,6 +144,7 @@ impl CommandCode {
         }
     }
 
+    #[tactic(auto, unfolding(crate::specs::Reading::by_number, crate::specs::Reading::known, crate::specs::Reading::code_of, crate::specs::Reading::code_read_told))]
     pub fn from_number(number: u8) -> CodeRead
         ensures { code_read_told result ≡ code_of number }
     {
@@ -193,6 +197,7 @@ pub enum StatusRead {
 
 impl StatusRead {
     // Its number in the rules, 0 where the byte is a status.
+    #[tactic(auto, unfolding(promise::specs::Told::number, crate::specs::Reading::status_read_told))]
     pub fn number(self) -> u8
         ensures { result ≡ told.number (status_read_told self) }
     {
@@ -213,6 +218,7 @@ impl Status {
         }
     }
 
+    #[tactic(auto, unfolding(crate::specs::Reading::by_number, crate::specs::Reading::known, crate::specs::Reading::status_of, crate::specs::Reading::status_read_told))]
     pub fn from_number(number: u8) -> StatusRead
         ensures { status_read_told result ≡ status_of number }
     {
@@ -243,6 +249,7 @@ pub enum ResetRead {
 
 impl ResetRead {
     // Its number in the rules, 0 where the byte is an opcode.
+    #[tactic(auto, unfolding(promise::specs::Told::number, crate::specs::Reading::reset_read_told))]
     pub fn number(self) -> u8
         ensures { result ≡ told.number (reset_read_told self) }
     {
@@ -266,6 +273,7 @@ impl ResetOpcode {
         }
     }
 
+    #[tactic(auto, unfolding(crate::specs::Reading::by_number, crate::specs::Reading::known, crate::specs::Reading::reset_of, crate::specs::Reading::reset_read_told))]
     pub fn from_number(number: u8) -> ResetRead
         ensures { reset_read_told result ≡ reset_of number }
     {
@@ -321,6 +329,7 @@ impl StorageIndex {
         }
     }
 
+    #[tactic(auto, unfolding(crate::specs::Reading::by_number, crate::specs::Reading::storage_of))]
     pub fn from_number(number: u8) -> StorageIndex
         ensures { result ≡ storage_of number }
     {

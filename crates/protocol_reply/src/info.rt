@@ -52,6 +52,7 @@ impl FlashInfo {
     }
 
     // flash size in 512 byte sectors
+    #[tactic(auto, using(protocol_bytes::proofs::Short::field_elements), unfolding(crate::specs::Info::info_sectors))]
     pub fn sectors(self) -> u32
         ensures { result ≡ info_sectors self.0 }
     {
@@ -60,6 +61,7 @@ impl FlashInfo {
     }
 
     // flash size in bytes
+    #[tactic(auto, unfolding(crate::specs::Info::flash_size))]
     pub fn size(self) -> u64
         ensures { result ≡ flash_size self.0 }
     {
@@ -67,6 +69,7 @@ impl FlashInfo {
     }
 
     // block size in 512 byte sectors
+    #[tactic(auto, using(protocol_bytes::proofs::Short::field_elements), unfolding(crate::specs::Info::block_size_sectors))]
     pub fn block_size_sectors(self) -> u16
         ensures { result ≡ block_size_sectors self.0 }
     {

@@ -15,6 +15,7 @@ pub enum StorageAnswer {
 
 impl StorageAnswer {
     // Its number in the rules, 0 where there is an index.
+    #[tactic(auto, unfolding(promise::specs::Told::number, crate::specs::Media::storage_told))]
     pub fn number(self) -> u8
         ensures { result ≡ number (storage_told self) }
     {

@@ -24,6 +24,7 @@ pub enum SectorAnswer {
 
 impl SectorAnswer {
     // Its number in the rules, 0 where there is a count.
+    #[tactic(auto, unfolding(promise::specs::Told::number, crate::specs::Sectors::sector_told))]
     pub fn number(self) -> u8
         ensures { result ≡ number (sector_told self) }
     {
@@ -38,6 +39,7 @@ impl SectorAnswer {
 const MOST_SECTORS: usize = 65535;
 
 // The sectors that data of `length` bytes is.
+#[tactic(auto, unfolding(promise::specs::Rules::or_refuse, crate::specs::Sectors::sectors_in, crate::specs::Sectors::sector_told))]
 pub fn sector_count(length: usize) -> SectorAnswer
     ensures { sector_told result ≡ sectors_in length }
 {

@@ -17,6 +17,7 @@ pub enum UsbOperationError {
 
 impl UsbOperationError {
     // Its number in the rules.
+    #[tactic(auto, unfolding(crate::specs::Failure::failure_number))]
     pub fn number(self) -> u8
         ensures { result ≡ failure_number self }
     {
@@ -30,6 +31,7 @@ impl UsbOperationError {
         }
     }
 
+    #[tactic(auto, unfolding(crate::specs::Failure::failure_number, crate::specs::Failure::failure_values, crate::specs::Failure::at_finish, crate::specs::StatusMeets::status_error_told))]
     pub fn from_status(error: CommandStatusParseError) -> UsbOperationError
         ensures { (signature : List ℕ) → failure_told result signature ≡ at_finish (status_error_told error signature) }
     {

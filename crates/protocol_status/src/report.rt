@@ -37,6 +37,7 @@ pub enum CommandStatusParseError {
 
 impl CommandStatusParseError {
     // Its number in the rules.
+    #[tactic(auto, unfolding(promise::specs::Told::number, crate::specs::StatusMeets::status_error_told))]
     pub fn number(self) -> u8
         ensures { (signature : List ℕ) → result ≡ number (status_error_told self signature) }
     {
@@ -56,6 +57,7 @@ pub enum StatusAnswer {
 
 impl StatusAnswer {
     // Its number in the rules, 0 where a status was read.
+    #[tactic(auto, unfolding(promise::specs::Told::number, crate::specs::StatusMeets::status_told))]
     pub fn number(self) -> u8
         ensures { (signature : List ℕ) → result ≡ number (status_told self signature) }
     {
@@ -84,6 +86,7 @@ fn parsed(answer: StatusAnswer) -> StatusParse
 }
 
 // The status that stands in at least 13 bytes, its last byte already read.
+#[tactic(auto, using(protocol_bytes::proofs::Short::field_elements), unfolding(crate::specs::StatusBytes::report_of))]
 fn report_of(bytes: &[u8], status: Status) -> CommandStatus
     requires { 13 ≤ length bytes.now }
     ensures { result ≡ report_of bytes.now status }
@@ -96,6 +99,7 @@ fn report_of(bytes: &[u8], status: Status) -> CommandStatus
 }
 
 impl CommandStatus {
+    #[tactic(auto, unfolding(promise::specs::Bytes::low_first, promise::specs::Bytes::high_first, crate::specs::StatusBytes::status_bytes))]
     fn bytes(self) -> [u8; 13]
         ensures { result ≡ status_bytes self }
     {
@@ -119,6 +123,7 @@ impl CommandStatus {
         ]
     }
 
+    #[tactic(auto, unfolding(crate::specs::StatusBytes::write_status, protocol_bytes::specs::Writing::writing, protocol_bytes::specs::Writing::written_told, promise::specs::Rules::or_refuse))]
     pub fn to_bytes(self, out: &mut [u8]) -> Written
         ensures write_meets { WriteMeets result out.old out.new (write_status self (length out.old)) }
         ensures status_fits { StatusFits self }

@@ -1,0 +1,95 @@
+// What C and Rust link: each function of `ffi` under its own name, with its clauses.
+
+#![tactic(auto)]
+
+ghost use Rattle.std.specs.Prelude.{◌≡◌, length};
+ghost use Rattle.promise.specs.Bytes.{front};
+ghost use Rattle.promise.specs.Told.{number};
+ghost use Rattle.crc.specs.Check.{crc_over};
+ghost use Rattle.protocol.specs.Commands.{read_lba_command};
+ghost use Rattle.protocol.specs.CommandBytes.{read_command, write_command};
+ghost use Rattle.ffi.specs.Drive.{DriveMeets, whole_drive, part_drive};
+ghost use Rattle.ffi.specs.Sectors.{SectorsMeet, read_sectors, write_sectors};
+ghost use Rattle.ffi.specs.Command.{command_number};
+
+// The register after all of `bytes`.
+#[unsafe(no_mangle)]
+pub extern "C" fn otterarch_crc_update(crc: u16, bytes: &[u8]) -> u16
+    ensures { result ≡ crc_over crc bytes.now }
+{
+    ffi::otterarch_crc_update(crc, bytes)
+}
+
+// The same a byte at a time by the 256-entry table, as the original does it.
+#[unsafe(no_mangle)]
+pub extern "C" fn otterarch_crc_update_by_table(crc: u16, bytes: &[u8]) -> u16
+    ensures { result ≡ crc_over crc bytes.now }
+{
+    ffi::otterarch_crc_update_by_table(crc, bytes)
+}
+
+// A whole upload to its finish, each transfer at the front of `out`: 0 or the number of the refusal, 28 past `budget` steps.
+#[unsafe(no_mangle)]
+pub extern "C" fn otterarch_upload_whole(area: u16, image: &[u8], out: &mut [u8], budget: u32) -> u8
+    ensures { DriveMeets result out.new (whole_drive area image.now out.old budget) }
+{
+    ffi::otterarch_upload_whole(area, image, out, budget)
+}
+
+// A whole upload in parts of `size` bytes, handed over by `budget` calls at most.
+#[unsafe(no_mangle)]
+pub extern "C" fn otterarch_upload_parts(
+    area: u16,
+    size: usize,
+    image: &[u8],
+    out: &mut [u8],
+    budget: u64,
+) -> u8
+    ensures { DriveMeets result out.new (part_drive area size image.now out.old budget) }
+{
+    ffi::otterarch_upload_parts(area, size, image, out, budget)
+}
+
+// The command that reads `sectors` from sector `first`, into the first 24 bytes of `out`: 0 or 20.
+#[unsafe(no_mangle)]
+pub extern "C" fn otterarch_command_write(tag: u32, first: u32, sectors: u16, out: &mut [u8]) -> u8
+    ensures { (result ≡ number (write_command (read_lba_command tag first sectors) (length out.old)).told) × (out.new ≡ front (write_command (read_lba_command tag first sectors) (length out.old)).sent out.old) }
+{
+    ffi::otterarch_command_write(tag, first, sectors, out)
+}
+
+// Code, address and count of a command as one number, or the number of the refusal above them.
+#[unsafe(no_mangle)]
+pub extern "C" fn otterarch_command_read(bytes: &[u8]) -> u64
+    ensures { result ≡ command_number (read_command bytes.now) }
+{
+    ffi::otterarch_command_read(bytes)
+}
+
+// Sectors of the flash from `first` on into all of `data`: 0, or the number of the refusal.
+// At 0 `counts` has how many bytes were moved, then how many were asked for; at a refusal it is as it was.
+#[unsafe(no_mangle)]
+pub extern "C" fn otterarch_read_sectors(
+    first: u32,
+    flash: &mut [u8],
+    data: &mut [u8],
+    counts: &mut [u32; 2],
+) -> u8
+    ensures { SectorsMeet result flash.new «data».new counts.new (read_sectors first flash.old «data».old counts.old) }
+{
+    ffi::otterarch_read_sectors(first, flash, data, counts)
+}
+
+// All of `data` to the flash from sector `first` on: 0, or the number of the refusal.
+// At 0 `counts` has how many bytes were moved, then how many were asked for; at a refusal it is as it was.
+#[unsafe(no_mangle)]
+pub extern "C" fn otterarch_write_sectors(
+    first: u32,
+    flash: &mut [u8],
+    data: &[u8],
+    counts: &mut [u32; 2],
+) -> u8
+    ensures { SectorsMeet result flash.new «data».now counts.new (write_sectors first flash.old «data».now counts.old) }
+{
+    ffi::otterarch_write_sectors(first, flash, data, counts)
+}

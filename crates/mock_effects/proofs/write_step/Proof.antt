@@ -1,7 +1,0 @@
--- The call is the first variety's.
-use borrow.Author.Rules.{rules}
-use Rattle.mock_effects.proofs.write_step.Statement.{statement}
-use Rattle.mock_effects.proofs.write_step.Tie as tie
-
-pub write_step_spec : {M : Type 1} → statement M
-write_step_spec = tie.close (tie.spec (λ c κs. search rules) (λ c. search rules) (λ c. c.before.before.write-step-by.ensures))
