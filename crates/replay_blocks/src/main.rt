@@ -17,6 +17,7 @@ use replay_lines::names::{
     CAP, CHP, CNV, COD, CRD, CWR, DIR, FID, FIN, IDX, RST, SEC, SMP, SRD, STA, STO, SWR,
 };
 use replay_replies::{numbers, replies};
+use std::io::{Read, Result, Write};
 
 fn answer(asked: Asked, bytes: &[u8], room: &mut [u8]) -> Answer {
     let call = asked.call;
@@ -34,52 +35,62 @@ fn answer(asked: Asked, bytes: &[u8], room: &mut [u8]) -> Answer {
 }
 
 // The place in the output behind the line's answer.
-fn answer_line(
+fn answer_line<W: Write>(
+    to: &mut W,
     line: &[u8],
     at: usize,
     out: &mut [u8; 65536],
     data: &mut [u8; 65536],
     room: &mut [u8; 65536],
-) -> usize {
+) -> Result<usize> {
     let asked = ask(line, data);
     fill(room, asked.room, asked.fill);
     let answer = answer(asked, between(data, 0, asked.len), room);
-    line_with_room(out, at, asked, answer, room)
+    line_with_room(to, out, at, asked, answer, room)
 }
 
-fn run(
+// A proved loop has to end, and nothing says that the input does: no run uses up so many turns.
+fn run<R: Read, W: Write>(
+    from: &mut R,
+    to: &mut W,
     block: &mut [u8; 65536],
     line: &mut [u8; 4096],
     out: &mut [u8; 65536],
     data: &mut [u8; 65536],
     room: &mut [u8; 65536],
-) {
+) -> Result<()> {
     let mut at = 0;
-    let mut input = next_line(block, line, start());
-    let mut turns = u64::MAX;
-    while !input.is_over {
+    let mut input = start();
+    for _ in 0..u64::MAX {
+        input = next_line(from, block, line, input);
+        if input.is_over {
+            break;
+        }
         at = answer_line(
+            to,
             between(line, 0, input.line_length(4096)),
             at,
             out,
             data,
             room,
-        );
-        input = next_line(block, line, input);
-        // no run comes here
-        if turns == 0 {
-            return;
-        }
-        turns -= 1;
+        )?;
     }
-    flush(out, at);
+    flush(to, out, at)
 }
 
-fn main() {
+fn main(rt: HostRuntime) -> Result<()> {
     let mut block = [0u8; 65536];
     let mut line = [0u8; 4096];
     let mut out = [0u8; 65536];
     let mut data = [0u8; 65536];
     let mut room = [0u8; 65536];
-    run(&mut block, &mut line, &mut out, &mut data, &mut room);
+    run(
+        &mut rt.stdin(),
+        &mut rt.stdout(),
+        &mut block,
+        &mut line,
+        &mut out,
+        &mut data,
+        &mut room,
+    )
 }

@@ -13,6 +13,7 @@ use replay_lines::asked::{Asked, ask};
 use replay_lines::buffer::between;
 use replay_lines::input::{next_line, start};
 use replay_lines::names::{BLK, DCK, DEV};
+use std::io::{Read, Result, Write};
 
 const BLOCK: usize = 512;
 
@@ -96,29 +97,33 @@ fn print(out: &mut [u8], call: u64, world: World, flash: &[u8], store: &[u8]) ->
     }
 }
 
-fn answer_line(
+fn answer_line<W: Write>(
+    to: &mut W,
     line: &[u8],
     world: World,
     out: &mut [u8; 65536],
     data: &mut [u8; 512],
     flash: &mut [u8; 65536],
     store: &mut [u8; 65536],
-) -> World {
+) -> Result<World> {
     let asked = ask(line, data);
     let mut done = answer(asked, world, between(data, 0, asked.len), flash, store);
     let next = print(out, asked.call, done, flash, store);
-    done.at = end_line(out, next);
-    done
+    done.at = end_line(to, out, next)?;
+    Ok(done)
 }
 
-fn run(
+// A proved loop has to end, and nothing says that the input does: no run uses up so many turns.
+fn run<R: Read, W: Write>(
+    from: &mut R,
+    to: &mut W,
     chunk: &mut [u8; 65536],
     line: &mut [u8; 4096],
     out: &mut [u8; 65536],
     data: &mut [u8; 512],
     flash: &mut [u8; 65536],
     store: &mut [u8; 65536],
-) {
+) -> Result<()> {
     let step = fresh(flash, store);
     let mut world = World {
         at: 0,
@@ -126,28 +131,26 @@ fn run(
         is_told: false,
         step,
     };
-    let mut input = next_line(chunk, line, start());
-    let mut turns = u64::MAX;
-    while !input.is_over {
+    let mut input = start();
+    for _ in 0..u64::MAX {
+        input = next_line(from, chunk, line, input);
+        if input.is_over {
+            break;
+        }
         world = answer_line(
+            to,
             between(line, 0, input.line_length(4096)),
             world,
             out,
             data,
             flash,
             store,
-        );
-        input = next_line(chunk, line, input);
-        // no run comes here
-        if turns == 0 {
-            return;
-        }
-        turns -= 1;
+        )?;
     }
-    flush(out, world.at);
+    flush(to, out, world.at)
 }
 
-fn main() {
+fn main(rt: HostRuntime) -> Result<()> {
     let mut chunk = [0u8; 65536];
     let mut line = [0u8; 4096];
     let mut out = [0u8; 65536];
@@ -155,6 +158,13 @@ fn main() {
     let mut flash = [0u8; 65536];
     let mut store = [0u8; 65536];
     run(
-        &mut chunk, &mut line, &mut out, &mut data, &mut flash, &mut store,
-    );
+        &mut rt.stdin(),
+        &mut rt.stdout(),
+        &mut chunk,
+        &mut line,
+        &mut out,
+        &mut data,
+        &mut flash,
+        &mut store,
+    )
 }

@@ -52,7 +52,7 @@ fn inner(outer: u64, told: Told) -> Told {
     let v = told.values;
     Told {
         number: outer,
-        count: std::num::wrapping_add_usize(told.count, 1),
+        count: told.count.wrapping_add(1),
         values: [told.number, v[0], v[1], v[2], v[3], 0, 0, 0, 0],
     }
 }

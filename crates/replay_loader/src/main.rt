@@ -20,6 +20,7 @@ use replay_lines::input::{next_line, start};
 use replay_lines::line::{as_u8, as_u16};
 use replay_records::shown::{first, section};
 use replay_records::{shown, told, walked};
+use std::io::{Read, Result, Write};
 
 const NO_TAG: [u8; 4] = [0, 0, 0, 0];
 
@@ -118,54 +119,64 @@ fn changed(asked: Asked, world: World, given: &[u8], file: &mut [u8; 65536]) -> 
     world
 }
 
-fn answer_line(
+fn answer_line<W: Write>(
+    to: &mut W,
     line: &[u8],
     world: World,
     out: &mut [u8; 65536],
     into: &mut [u8; 65536],
     file: &mut [u8; 65536],
-) -> World {
+) -> Result<World> {
     let asked = ask(line, into);
     let given = between(into, 0, asked.len);
     let mut done = changed(asked, world, given, file);
     let next = answer(out, done.at, asked, given, between(file, 0, done.len));
-    done.at = end_line(out, next);
-    done
+    done.at = end_line(to, out, next)?;
+    Ok(done)
 }
 
-fn run(
+// A proved loop has to end, and nothing says that the input does: no run uses up so many turns.
+fn run<R: Read, W: Write>(
+    from: &mut R,
+    to: &mut W,
     block: &mut [u8; 65536],
     line: &mut [u8; 4096],
     out: &mut [u8; 65536],
     into: &mut [u8; 65536],
     file: &mut [u8; 65536],
-) {
+) -> Result<()> {
     let mut world = World { at: 0, len: 0 };
-    let mut input = next_line(block, line, start());
-    let mut turns = u64::MAX;
-    while !input.is_over {
+    let mut input = start();
+    for _ in 0..u64::MAX {
+        input = next_line(from, block, line, input);
+        if input.is_over {
+            break;
+        }
         world = answer_line(
+            to,
             between(line, 0, input.line_length(4096)),
             world,
             out,
             into,
             file,
-        );
-        input = next_line(block, line, input);
-        // no run comes here
-        if turns == 0 {
-            return;
-        }
-        turns -= 1;
+        )?;
     }
-    flush(out, world.at);
+    flush(to, out, world.at)
 }
 
-fn main() {
+fn main(rt: HostRuntime) -> Result<()> {
     let mut block = [0u8; 65536];
     let mut line = [0u8; 4096];
     let mut out = [0u8; 65536];
     let mut into = [0u8; 65536];
     let mut file = [0u8; 65536];
-    run(&mut block, &mut line, &mut out, &mut into, &mut file);
+    run(
+        &mut rt.stdin(),
+        &mut rt.stdout(),
+        &mut block,
+        &mut line,
+        &mut out,
+        &mut into,
+        &mut file,
+    )
 }

@@ -2,7 +2,7 @@
 use crate::shown::{came, first, section, walk};
 use loader_records::entry::RkBootEntry;
 use loader_walk::walk::{EntryPlace, Walk, WalkAnswer, WalkStep};
-use replay_answers::out::text;
+use replay_answers::out::{hex, text};
 use replay_answers::told::none;
 use replay_lines::line::as_u32;
 
@@ -56,7 +56,7 @@ fn further(before: Walked, step: WalkStep) -> Walked {
     let answer = step.answer;
     match answer {
         WalkAnswer::Entry(found) => Walked {
-            found: std::num::wrapping_add_u32(before.found, 1),
+            found: before.found.wrapping_add(1),
             digest: with_entry(with_place(before.digest, found), step.entry),
             is_over: false,
             step,
@@ -103,9 +103,8 @@ fn to_the_end(file: &[u8]) -> Walked {
 fn found(out: &mut [u8], at: usize, found: u32, digest: u32) -> usize {
     let next = section(out, at, none(found as u64));
     let next = text(out, next, b" ");
-    let mut digits = [0u8; 16];
-    let n = io::hex(digest as u64, 8, &mut digits);
-    text(out, next, &digits[..n])
+    let digest = digest.to_be_bytes();
+    hex(out, next, &digest)
 }
 
 // What the last step came to, what all found, and the record that the last handed back.

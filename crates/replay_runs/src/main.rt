@@ -16,6 +16,7 @@ use replay_lines::input::{next_line, start};
 use replay_lines::names::has_room;
 use replay_world::calls;
 use replay_world::world::{World, new_world};
+use std::io::{Read, Result, Write};
 
 // A run's steps and the room, where the call has them.
 fn count_and_room(out: &mut [u8], at: usize, asked: Asked, steps: u32, room: &[u8]) -> usize {
@@ -77,7 +78,8 @@ fn print(
     data_and_device(out, next, asked.call, world, own, flash, store)
 }
 
-fn print_line(
+fn print_line<W: Write>(
+    to: &mut W,
     out: &mut [u8],
     asked: Asked,
     mut world: World,
@@ -85,13 +87,14 @@ fn print_line(
     own: &[u8],
     flash: &[u8],
     store: &[u8],
-) -> World {
+) -> Result<World> {
     let next = print(out, asked, world, room, own, flash, store);
-    world.at = end_line(out, next);
-    world
+    world.at = end_line(to, out, next)?;
+    Ok(world)
 }
 
-fn respond(
+fn respond<W: Write>(
+    to: &mut W,
     asked: Asked,
     world: World,
     out: &mut [u8; 65536],
@@ -101,12 +104,13 @@ fn respond(
     own: &mut [u8; 65536],
     flash: &mut [u8; 65536],
     store: &mut [u8; 65536],
-) -> World {
+) -> Result<World> {
     let done = calls::answer(asked, world, bytes, room, image, own, flash, store);
-    print_line(out, asked, done, room, own, flash, store)
+    print_line(to, out, asked, done, room, own, flash, store)
 }
 
-fn answer_line(
+fn answer_line<W: Write>(
+    to: &mut W,
     line: &[u8],
     world: World,
     out: &mut [u8; 65536],
@@ -116,10 +120,11 @@ fn answer_line(
     own: &mut [u8; 65536],
     flash: &mut [u8; 65536],
     store: &mut [u8; 65536],
-) -> World {
+) -> Result<World> {
     let asked = ask(line, data);
     fill(room, asked.room, asked.fill);
     respond(
+        to,
         asked,
         world,
         out,
@@ -132,7 +137,10 @@ fn answer_line(
     )
 }
 
-fn run(
+// A proved loop has to end, and nothing says that the input does: no run uses up so many turns.
+fn run<R: Read, W: Write>(
+    from: &mut R,
+    to: &mut W,
     block: &mut [u8; 65536],
     line: &mut [u8; 4096],
     out: &mut [u8; 65536],
@@ -142,12 +150,16 @@ fn run(
     own: &mut [u8; 65536],
     flash: &mut [u8; 65536],
     store: &mut [u8; 65536],
-) {
+) -> Result<()> {
     let mut world = new_world();
-    let mut input = next_line(block, line, start());
-    let mut turns = u64::MAX;
-    while !input.is_over {
+    let mut input = start();
+    for _ in 0..u64::MAX {
+        input = next_line(from, block, line, input);
+        if input.is_over {
+            break;
+        }
         world = answer_line(
+            to,
             between(line, 0, input.line_length(4096)),
             world,
             out,
@@ -157,18 +169,12 @@ fn run(
             own,
             flash,
             store,
-        );
-        input = next_line(block, line, input);
-        // no run comes here
-        if turns == 0 {
-            return;
-        }
-        turns -= 1;
+        )?;
     }
-    flush(out, world.at);
+    flush(to, out, world.at)
 }
 
-fn main() {
+fn main(rt: HostRuntime) -> Result<()> {
     let mut block = [0u8; 65536];
     let mut line = [0u8; 4096];
     let mut out = [0u8; 65536];
@@ -179,7 +185,16 @@ fn main() {
     let mut flash = [0u8; 65536];
     let mut store = [0u8; 65536];
     run(
-        &mut block, &mut line, &mut out, &mut data, &mut room, &mut image, &mut own, &mut flash,
+        &mut rt.stdin(),
+        &mut rt.stdout(),
+        &mut block,
+        &mut line,
+        &mut out,
+        &mut data,
+        &mut room,
+        &mut image,
+        &mut own,
+        &mut flash,
         &mut store,
-    );
+    )
 }

@@ -13,10 +13,10 @@ use replay_lines::buffer::between;
 use replay_lines::line::after;
 
 fn count_of(slots: [Area; 8]) -> u64 {
-    let mut count = 0;
+    let mut count: u64 = 0;
     for i in 0..8 {
         if slots[i].held {
-            count = std::num::wrapping_add_u64(count, 1);
+            count = count.wrapping_add(1);
         }
     }
     count
@@ -68,7 +68,7 @@ fn area_list(out: &mut [u8], at: usize, areas: Areas, slots: [Area; 8], store: &
     let mut turns: u64 = 8;
     while turns > 0 && number < NO_AREA {
         next = area_text(out, next, areas, number, store);
-        number = next_area(slots, std::num::wrapping_add_u32(number, 1));
+        number = next_area(slots, number.wrapping_add(1));
         turns -= 1;
     }
     next

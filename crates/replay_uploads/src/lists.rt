@@ -36,7 +36,7 @@ fn with_transfer(text: &mut [u8], list: List, control: Control, bytes: &[u8]) ->
     let at = value(text, at, control.value as u64);
     let at = value(text, at, control.index as u64);
     List {
-        count: std::num::wrapping_add_u64(list.count, 1),
+        count: list.count.wrapping_add(1),
         at: spaced_bytes(text, at, bytes, control.size),
         is_over: false,
         number: list.number,
@@ -132,7 +132,7 @@ fn after_part(cut: Cut, record: MaskRomOperation, list: List, n: usize) -> Cut {
     Cut {
         record,
         list,
-        taken: std::num::wrapping_add_usize(cut.taken, n),
+        taken: cut.taken.wrapping_add(n),
         end: cut.end,
         is_fresh: false,
         parts: cut.parts,
@@ -195,12 +195,9 @@ fn next_part(line: &[u8], first: usize, count: u64, length: usize, cut: Cut) -> 
         record,
         list,
         taken: cut.taken,
-        end: least(
-            std::num::wrapping_add_usize(cut.taken, size.as_usize()),
-            length,
-        ),
+        end: least(cut.taken.wrapping_add(size.as_usize()), length),
         is_fresh: true,
-        parts: std::num::wrapping_add_u64(parts, 1),
+        parts: parts.wrapping_add(1),
         place: size.at,
     }
 }

@@ -12,6 +12,7 @@ use replay_lines::data::fill;
 use replay_lines::input::{next_line, start};
 use replay_lines::names::{ALL, CUT, UPL, UST};
 use replay_steps::uploads::{Upload, Uploaded, no_upload, with_answer};
+use std::io::{Read, Result, Write};
 
 // The current upload and the place in the output.
 #[derive(Clone, Copy)]
@@ -48,23 +49,29 @@ fn answer(
     }
 }
 
-fn print_line(out: &mut [u8], at: usize, asked: Asked, done: Uploaded, room: &[u8]) -> World {
+fn print_line<W: Write>(
+    to: &mut W,
+    out: &mut [u8],
+    at: usize,
+    asked: Asked,
+    done: Uploaded,
+    room: &[u8],
+) -> Result<World> {
     let answer = done.answer;
     let upload = done.upload;
-    World {
-        at: line_with_room(out, at, asked, answer, room),
-        upload,
-    }
+    let at = line_with_room(to, out, at, asked, answer, room)?;
+    Ok(World { at, upload })
 }
 
-fn answer_line(
+fn answer_line<W: Write>(
+    to: &mut W,
     line: &[u8],
     world: World,
     out: &mut [u8; 65536],
     data: &mut [u8; 4194304],
     room: &mut [u8; 65536],
     image: &mut [u8; 100000],
-) -> World {
+) -> Result<World> {
     let asked = ask(line, data);
     fill(room, asked.room, asked.fill);
     let done = answer(
@@ -75,41 +82,42 @@ fn answer_line(
         image,
         room,
     );
-    print_line(out, world.at, asked, done, room)
+    print_line(to, out, world.at, asked, done, room)
 }
 
-fn run(
+// A proved loop has to end, and nothing says that the input does: no run uses up so many turns.
+fn run<R: Read, W: Write>(
+    from: &mut R,
+    to: &mut W,
     block: &mut [u8; 65536],
     line: &mut [u8; 4096],
     out: &mut [u8; 65536],
     data: &mut [u8; 4194304],
     room: &mut [u8; 65536],
     image: &mut [u8; 100000],
-) {
+) -> Result<()> {
     let upload = no_upload();
     let mut world = World { at: 0, upload };
-    let mut input = next_line(block, line, start());
-    let mut turns = u64::MAX;
-    while !input.is_over {
+    let mut input = start();
+    for _ in 0..u64::MAX {
+        input = next_line(from, block, line, input);
+        if input.is_over {
+            break;
+        }
         world = answer_line(
+            to,
             between(line, 0, input.line_length(4096)),
             world,
             out,
             data,
             room,
             image,
-        );
-        input = next_line(block, line, input);
-        // no run comes here
-        if turns == 0 {
-            return;
-        }
-        turns -= 1;
+        )?;
     }
-    flush(out, world.at);
+    flush(to, out, world.at)
 }
 
-fn main() {
+fn main(rt: HostRuntime) -> Result<()> {
     let mut block = [0u8; 65536];
     let mut line = [0u8; 4096];
     let mut out = [0u8; 65536];
@@ -117,6 +125,13 @@ fn main() {
     let mut room = [0u8; 65536];
     let mut image = [0u8; 100000];
     run(
-        &mut block, &mut line, &mut out, &mut data, &mut room, &mut image,
-    );
+        &mut rt.stdin(),
+        &mut rt.stdout(),
+        &mut block,
+        &mut line,
+        &mut out,
+        &mut data,
+        &mut room,
+        &mut image,
+    )
 }
