@@ -1,7 +1,8 @@
 -- 65 and 51 in this order, then the append, put back into the record.
-use mathlib.Core.Path.{refl, ap, sym, ◌∙◌}
+use mathlib.Core.Path.{◌≡◌, refl, ap, sym, ◌∙◌}
 use mathlib.Core.List.{[], ◌∷◌}
 use lib.ListN.{length}
+use native.Mathlib.Omega.{arith}
 use borrow.Author.Tests.{eq-eqb, ne_eqb}
 use Rattle.promise.specs.Told.{refused}
 use Rattle.promise.specs.Rules.{or_refuse}
@@ -24,10 +25,11 @@ unfolding write_control control_rules or_refuse error_values
 returns-then-not-is_upload c =
     let a = c.args in
     let u = c.is_upload in
+    let same_length : length a.store.now ≡ a.self.store_length = omega arith in
     let values = a.request_type ∷ a.request ∷ a.value ∷ [] in
     rw (
       c.refused-then-not-is_upload.ensures,
-      eq-eqb (length a.store.now) a.self.store_length c.if-store-self.false,
+      eq-eqb (length a.store.now) a.self.store_length same_length,
       sym u.ensures ∙ c.if-not-is_upload.true,
     )
     (record { tells = answers_error (UnsupportedControl a.request_type a.request a.value) (refused 51 values) refl; next = refl; leaves = refl })
@@ -37,10 +39,11 @@ unfolding write_control control_rules or_refuse
 returns c =
     let a = c.args in
     let u = c.is_upload in
+    let same_length : length a.store.now ≡ a.self.store_length = omega arith in
     let m = c.append.ensures in
     rw (
       c.after_areas.ensures,
-      eq-eqb (length a.store.now) a.self.store_length c.if-store-self.false,
+      eq-eqb (length a.store.now) a.self.store_length same_length,
       sym u.ensures ∙ c.if-not-is_upload.false,
     )
     (record { tells = area_answers c.append.result.answer m.tells; next = ap (with_areas a.self) m.next; leaves = m.leaves })
