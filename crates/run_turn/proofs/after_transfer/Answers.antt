@@ -1,6 +1,5 @@
 -- What the device answered is told, and nothing else changes.
 use mathlib.Core.Path.{ap₂, sym, subst}
-use borrow.Author.Rules.{rules}
 use Rattle.operation_finish.specs.declared.Beside.{Beside}
 use Rattle.run_turn.specs.declared.Turn.{Turn}
 use Rattle.run_turn.specs.declared.UsbTurned.{UsbTurned}
@@ -8,22 +7,13 @@ use Rattle.run_turn.specs.Turn.{usb_state, onward}
 use Rattle.run_turn.specs.Answers.{TurnMeets}
 use Rattle.run_turn.specs.Code.{turned_by}
 use Rattle.run_turn.proofs.Meets.{after_answer}
-use Rattle.run_turn.proofs.after_transfer.Statement.{statement}
-use Rattle.run_turn.proofs.after_transfer.Tie as tie
+use Rattle.run_turn.proofs.after_transfer.Goals as goal
 
-returns : tie.Need-returns
+pub returns : goal.returns
 returns c =
     λ told flash bytes m.
-    let a = c.before.before.before.before.before.args in
+    let a = c.args in
     let d = a.done.answer in
     subst (λ (r : UsbTurned). TurnMeets r flash bytes (onward told (usb_state a.operation a.done.state flash bytes)))
-    (sym (ap₂ (λ (t : Turn) (b : Beside). turned_by t b a.operation a.done.state) c.before.before.turn-after.ensures c.before.blank.ensures))
+    (sym (ap₂ (λ (t : Turn) (b : Beside). turned_by t b a.operation a.done.state) c.turn_after-turn.ensures c.blank-beside.ensures))
     (after_answer d.result d.signature told a.operation a.done.state flash bytes m.tells m.signature)
-
-pub after_transfer_spec : {M : Type 1} → statement M
-after_transfer_spec =
-    tie.close
-    (tie.spec
-    (λ c κs. search rules)
-    (λ c κs. search rules)
-    returns)
