@@ -1,0 +1,5 @@
+-- The contract of the function that it calls is its own.
+use Rattle.ffi.proofs.otterarch_command_read.Goals as goal
+
+pub returns : goal.returns
+returns c = c.read_command.ensures

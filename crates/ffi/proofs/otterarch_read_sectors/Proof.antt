@@ -1,7 +1,0 @@
--- The contract of the function that it calls is its own.
-use borrow.Author.Rules.{rules}
-use Rattle.ffi.proofs.otterarch_read_sectors.Statement.{statement}
-use Rattle.ffi.proofs.otterarch_read_sectors.Tie as tie
-
-pub otterarch_read_sectors_spec : {M : Type 1} → statement M
-otterarch_read_sectors_spec = tie.close (tie.spec (λ c κs. search rules) (λ c. search rules) (λ c. search rules) (λ c. c.before.before.before.before.read_sectors_lem.ensures))

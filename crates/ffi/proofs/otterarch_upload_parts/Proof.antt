@@ -1,7 +1,0 @@
--- The contract of the function that it calls is its own.
-use borrow.Author.Rules.{rules}
-use Rattle.ffi.proofs.otterarch_upload_parts.Statement.{statement}
-use Rattle.ffi.proofs.otterarch_upload_parts.Tie as tie
-
-pub otterarch_upload_parts_spec : {M : Type 1} → statement M
-otterarch_upload_parts_spec = tie.close (tie.spec (λ c κs. search rules) (λ c. search rules) (λ c. c.before.before.parts.ensures))

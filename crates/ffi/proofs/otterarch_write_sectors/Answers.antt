@@ -1,0 +1,5 @@
+-- The contract of the function that it calls is its own.
+use Rattle.ffi.proofs.otterarch_write_sectors.Goals as goal
+
+pub returns : goal.returns
+returns c = c.write_sectors.ensures
