@@ -1,5 +1,5 @@
 -- A head with NOR flash, for any caller of the device's calls.
-use Prim.Native.Nat.{ℕ, zero, suc, ◌+◌, ◌*◌, ◌/◌, ◌%◌, ◌≤◌, ◌<◌}
+use Prim.Native.Nat.{ℕ, suc, ◌+◌, ◌*◌, ◌/◌, ◌%◌, ◌≤◌, ◌<◌}
 use mathlib.Core.Path.{◌≡◌, refl, ap, ap₂, sym, subst, ◌∙◌}
 use mathlib.Core.Bool.{Bool, true, false, not}
 use mathlib.Core.Logic.{◌⊎◌, inl, inr, ⊎_elim}
@@ -15,7 +15,7 @@ use Rattle.promise.specs.Rules.{pick, unless, or_refuse}
 use Rattle.promise.specs.Bytes.{field, front, AreBytes}
 use Rattle.promise.specs.Over.{over}
 use Rattle.promise.proofs.Over.{field_same}
-use Rattle.promise.proofs.Outcome.{by_test, on_test, either_way}
+use Rattle.promise.proofs.Outcome.{on_test, either_way}
 use Rattle.protocol_bytes.specs.Signature.{same}
 use Rattle.protocol_bytes.specs.Sector.{sector_size}
 use Rattle.protocol_codes.specs.declared.Status as status
@@ -37,7 +37,6 @@ use Rattle.mock_table.specs.Table.{start_turn, write_row, write_turn, status_tur
 use Rattle.mock_table.specs.Erasing.{command_in, Splits}
 use Rattle.mock_table.specs.declared.session.CommandState.{CommandState}
 use Rattle.mock_table.specs.declared.session.CommandState.TheVariants.{None, IO, Status}
-use Rattle.mock_table.specs.declared.session.LastReset.{LastReset}
 use Rattle.mock_table.specs.declared.session.Session.{Session}
 use Rattle.mock_table.specs.declared.outcome.Effect.{Effect}
 use Rattle.mock_table.specs.declared.outcome.Effect.TheVariants.{Reply}

@@ -35,7 +35,7 @@ use Rattle.mock_areas.specs.Contents.{Sound}
 use Rattle.mock_areas.specs.Reached.{Filled}
 use Rattle.mock_areas.proofs.Reached.{fresh_filled, append_filled, filled_sound}
 use Rattle.mock_table.specs.Turn.{Turn, refuses, done, has_code, is_erase, is_in, is_out, reply_size, Quiet}
-use Rattle.mock_table.specs.Ways.{moved_by, switches, switched, tells_storage}
+use Rattle.mock_table.specs.Ways.{moved_by, switches, tells_storage}
 use Rattle.mock_table.specs.Table.{range_of, range_rule, length_rule, sector_turn, stored_reset, erase_rules, erase_turn, zero_length_turn, start_turn, write_io_turn, write_row, write_turn, reply_turn, code_turn, read_io_turn, status_turn, read_row}
 use Rattle.mock_table.specs.declared.session.CommandState.{CommandState}
 use Rattle.mock_table.specs.declared.session.CommandState.TheVariants.{None, IO, Status}
@@ -46,7 +46,7 @@ use Rattle.mock_table.specs.declared.outcome.Effect.TheVariants.{Fill, Reply}
 use Rattle.mock_table.proofs.FirstVariety.{write_first, read_first}
 use Rattle.mock_table.specs.declared.outcome.ReplyKind.{ReplyKind}
 use Rattle.mock_table.specs.declared.outcome.ReplyKind.TheVariants as reply
-use Rattle.mock_effects.specs.Effects.{flash_after, pending_after}
+use Rattle.mock_effects.specs.Effects.{pending_after}
 use Rattle.mock_effects.proofs.Frames.{settled}
 use Rattle.mock_effects.specs.Steps.{failed, pend, write_step_of, write_step_by, read_step_of, read_step_by}
 use Rattle.mock.specs.Device.{Call, CreateMeets, MockMeets, fresh_state, created, session_of, with_areas, control_rules, write_bulk, read_bulk, write_control}

@@ -31,6 +31,7 @@ pub struct MockStep {
     pub state: MockState,
 }
 
+#[tactic(auto, unfolding(crate::specs::Device::is_upload))]
 fn is_upload(request_type: u8, request: u8, value: u16) -> bool
     ensures { result ≡ is_upload request_type request value }
 {
@@ -43,6 +44,7 @@ fn is_upload(request_type: u8, request: u8, value: u16) -> bool
     value == 0
 }
 
+#[tactic(auto, unfolding(crate::specs::Code::area_result))]
 fn area_result(answer: AreaAnswer) -> MockResult
     ensures { result ≡ area_result answer }
 {
@@ -74,6 +76,7 @@ fn nor_answer(block_size: u16, length: usize) -> MockAnswer
 }
 
 impl MockState {
+    #[tactic(auto, unfolding(crate::specs::Device::fresh_state))]
     fn fresh(variety: Variety, config: MockDeviceConfig, store_length: usize) -> MockState
         ensures { result ≡ fresh_state variety config store_length }
     {

@@ -2,14 +2,13 @@
 use Prim.Native.Nat.{ℕ, ◌+◌, ◌<◌}
 use mathlib.Core.Path.{◌≡◌, refl, ap, sym, subst, ◌∙◌}
 use mathlib.Core.List.{List}
-use lib.ListN.{length}
 use Rattle.protocol_bytes.specs.Signature.{no_signature}
 use Rattle.operation_finish.specs.Reply.{Reply, blank}
 use Rattle.operation_finish.specs.declared.Beside.{Beside}
 use Rattle.operation_finish.specs.declared.Kind.{Kind}
 use Rattle.operation.specs.declared.steps.UsbOperation.{UsbOperation}
 use Rattle.mock.specs.declared.device.MockState.{MockState}
-use Rattle.promise.specs.Run.{Turned, ends, goes, tells, Ran, runs}
+use Rattle.promise.specs.Run.{Turned, ends, goes, Ran, runs}
 use Rattle.promise.proofs.Loop.{On, begins, goes_on, stops, spent}
 use Rattle.run_turn.specs.declared.Stop.{Stop}
 use Rattle.run_turn.specs.declared.Turn.{Turn}

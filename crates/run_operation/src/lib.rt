@@ -31,6 +31,7 @@ pub enum RunAnswer {
 
 impl RunAnswer {
     // Its number in the rules, 0 for the operation's value.
+    #[tactic(auto, unfolding(promise::specs::Told::number, promise::specs::Run::end_told, crate::specs::Answers::answer_end))]
     pub fn number(self) -> u8
         ensures { (b : Beside) → result ≡ number (end_told (answer_end self b)) }
     {
@@ -52,6 +53,7 @@ pub struct UsbRun {
     pub steps: u32,
 }
 
+#[tactic(auto, unfolding(crate::specs::Run::sector_data))]
 fn sector_data(kind: Kind, size: usize) -> usize
     ensures { result ≡ sector_data kind size }
 {

@@ -34,6 +34,7 @@ pub enum Stop {
 
 impl Stop {
     // Its number in the rules, 0 for the operation's value.
+    #[tactic(auto, unfolding(promise::specs::Told::number, crate::specs::Answers::stop_told))]
     pub fn number(self) -> u8
         ensures { (b : Beside) → result ≡ number (stop_told self b) }
     {
@@ -62,6 +63,7 @@ pub struct UsbTurned {
 }
 
 // Whether an operation of this kind writes the data that it is lent.
+#[tactic(auto, unfolding(crate::specs::Turn::is_write))]
 pub fn is_write(kind: Kind) -> bool
     ensures { result ≡ is_write kind }
 {
@@ -78,6 +80,7 @@ pub fn is_write(kind: Kind) -> bool
 }
 
 // What the device's answer to a transfer makes of the run.
+#[tactic(auto, unfolding(crate::specs::Code::turn_after))]
 fn turn_after(answer: MockAnswer) -> Turn
     ensures { result ≡ turn_after answer.result }
 {

@@ -1,7 +1,7 @@
 -- A law for each thing that a turn comes to.
 use Prim.Native.Nat.{ℕ}
 use mathlib.Core.Path.{◌≡◌, refl, ap, sym, ◌∙◌}
-use mathlib.Core.List.{List, []}
+use mathlib.Core.List.{List}
 use Rattle.promise.specs.Told.{Told, given, refused}
 use Rattle.protocol_bytes.specs.Signature.{no_signature}
 use Rattle.promise.specs.Does.{Does, said, sent, after}

@@ -1,25 +1,22 @@
 -- A deck dealt in any chunks of whole blocks, the last of which may be of any length, gives the lines of the whole and leaves what the whole leaves.
 use Prim.Native.Nat.{ℕ, ◌*◌, ◌≤◌}
-use mathlib.Core.Path.{◌≡◌, refl, ap, ap₂, sym, subst, ◌∙◌}
+use mathlib.Core.Path.{◌≡◌, ap, ap₂, sym, subst, ◌∙◌}
 use mathlib.Core.List.{List, [], ◌∷◌, ◌++◌}
 use native.Mathlib.Omega.{arith}
 use lib.ListN.{length, take, drop, length-replicate}
 use lib.Seq.{take-append_seam}
 use borrow.Author.Tests.{le-ltb}
 use Rattle.promise.specs.Told.{Told, given, refused}
-use Rattle.promise.specs.Bytes.{front}
-use Rattle.promise.specs.Rules.{or_refuse}
-use Rattle.mock_base.specs.Config.{default_flash}
 use Rattle.deck.specs.declared.bench.Bench.{Bench}
 use Rattle.deck.specs.declared.bench.BenchStart.{BenchStart}
-use Rattle.deck.specs.Bench.{fresh_bench, StartMeets}
+use Rattle.deck.specs.Bench.{StartMeets}
 use Rattle.deck_line.specs.Line.{longest_line}
 use Rattle.deck_block.specs.Blocks.{begun, joined, WholeButLast}
 use Rattle.deck_chunk.specs.declared.ChunkCount.{ChunkCount}
 use Rattle.deck_chunk.specs.declared.ChunkAnswer.{ChunkAnswer}
 use Rattle.deck_chunk.specs.declared.ChunkAnswer.TheVariants.{Dealt, TooShort}
 use Rattle.deck_chunk.specs.declared.ChunkStep.{ChunkStep}
-use Rattle.deck_chunk.specs.Deck.{Table, table, Lines, lines, then_deal, deal_all, new_deck, deck_start, deck_lines, bench_store_length, bench_store, bench_lines}
+use Rattle.deck_chunk.specs.Deck.{Table, table, Lines, then_deal, deal_all, new_deck, deck_start, deck_lines, bench_store_length, bench_store, bench_lines}
 use Rattle.deck_chunk.specs.Chunk.{chunk_told, Chunk, chunk_dealt, deal_chunk, ChunkMeets}
 use Rattle.deck_chunk.proofs.Laws.{fits}
 use Rattle.deck_chunk.proofs.Cuts.{chunk_then, chunk_alone, no_input}

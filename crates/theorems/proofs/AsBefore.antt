@@ -13,9 +13,7 @@ use Rattle.protocol_codes.specs.Numbers.{code_number}
 use Rattle.protocol_codes.specs.Reading.{reset_of}
 use Rattle.protocol_codes.specs.declared.ResetOpcode.{ResetOpcode}
 use Rattle.protocol_codes.specs.declared.CommandCode.TheVariants.{ReadFlashId, ReadFlashInfo, ReadChipInfo, ReadCapability, ReadLBA, DeviceReset}
-use Rattle.protocol_codes.specs.declared.Direction.TheVariants.{In}
 use Rattle.protocol_codes.specs.declared.Status as status
-use Rattle.protocol_codes.specs.declared.Status.TheVariants.{SUCCESS}
 use Rattle.protocol.specs.CommandBytes.{read_command}
 use Rattle.protocol.specs.declared.CommandBlock.{CommandBlock}
 use Rattle.mock_base.specs.Flash.{flash_sectors}
@@ -24,7 +22,7 @@ use Rattle.mock_base.specs.declared.cells.Variety.TheVariants.{First}
 use Rattle.mock_base.specs.declared.config.MockDeviceConfig.{MockDeviceConfig}
 use Rattle.mock_table.specs.Turn.{Turn, refuses, done, has_code, is_erase, is_in, Quiet}
 use Rattle.mock_table.specs.Ways.{stored_by, moved_by, splits, switches, tells_storage}
-use Rattle.mock_table.specs.Table.{range_of, sector_turn, stored_reset, erase_rules, erase_turn, zero_length_turn, start_turn, write_io_turn, write_row, write_turn, reply_turn, code_turn, read_io_turn, status_turn, read_row, read_turn}
+use Rattle.mock_table.specs.Table.{sector_turn, stored_reset, erase_rules, erase_turn, zero_length_turn, start_turn, write_io_turn, write_row, write_turn, reply_turn, code_turn, read_io_turn, status_turn, read_row}
 use Rattle.mock_table.specs.declared.session.CommandState.{CommandState}
 use Rattle.mock_table.specs.declared.session.CommandState.TheVariants.{None, IO, Status}
 use Rattle.mock_table.specs.declared.session.LastReset.{LastReset}
@@ -32,11 +30,11 @@ use Rattle.mock_table.specs.declared.session.Session.{Session}
 use Rattle.mock_table.specs.declared.outcome.Effect.{Effect}
 use Rattle.mock_table.specs.declared.outcome.Effect.TheVariants.{Nothing, Fill, Store, Program, Supply, Reply}
 use Rattle.mock_table.proofs.FirstVariety.{NoProgram, write_first}
-use Rattle.mock_effects.specs.Effects.{flash_after, pending_after, reply_bytes, buffer_after}
+use Rattle.mock_effects.specs.Effects.{flash_after, reply_bytes, buffer_after}
 use Rattle.mock_effects.specs.Steps.{Step, pend, pended, write_step_of, write_step_by, read_step_of, read_step_by}
 use Rattle.mock_effects.proofs.Frames.{settled}
 use Rattle.mock.proofs.Reached.{write_quiet, read_quiet}
-use Rattle.mock.specs.Device.{Call, session_of, bulk, block_rules, create_told, created, write_bulk, read_bulk}
+use Rattle.mock.specs.Device.{session_of, bulk, block_rules, create_told, created, write_bulk, read_bulk}
 use Rattle.mock.specs.declared.device.MockState.{MockState}
 use Rattle.theorems.specs.Before as before
 use Rattle.theorems.specs.Before.{AsThen}

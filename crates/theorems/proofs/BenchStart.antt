@@ -1,13 +1,13 @@
 -- A bench that is lent as many bytes as the Rust's default flash has starts with that flash.
 use Prim.Native.Nat.{ℕ}
-use mathlib.Core.Path.{◌≡◌, refl, ap, ◌∙◌}
+use mathlib.Core.Path.{◌≡◌, ap, ◌∙◌}
 use mathlib.Core.List.{List}
 use lib.ListN.{length, replicate}
-use Rattle.promise.specs.Told.{Told, given, refused, and_then}
+use Rattle.promise.specs.Told.{Told, given, and_then}
 use Rattle.promise.specs.Rules.{or_refuse}
 use Rattle.mock_base.specs.Config.{default_byte, default_flash}
 use Rattle.mock_base.specs.Flash.{flash_rules, flash_sectors}
-use Rattle.mock_base.specs.Told.{result_told, Answers}
+use Rattle.mock_base.specs.Told.{Answers}
 use Rattle.deck.specs.declared.bench.BenchStart.{BenchStart}
 use Rattle.deck.specs.Bench.{start_told, start_flash, StartMeets}
 

@@ -10,7 +10,7 @@ use Rattle.mock_base.specs.Flash.{flash_sectors, flash_rules}
 use Rattle.operation.specs.declared.steps.UsbOperation.{UsbOperation}
 use Rattle.operation.specs.Record.{fresh}
 use Rattle.mock_base.specs.declared.cells.Variety.{Variety}
-use Rattle.mock_base.specs.declared.cells.Variety.TheVariants.{First, Nor}
+use Rattle.mock_base.specs.declared.cells.Variety.TheVariants.{First}
 use Rattle.mock.specs.declared.device.MockState.{MockState}
 use Rattle.mock_base.specs.Config.{default_config}
 use Rattle.mock.specs.Device.{fresh_state}

@@ -14,7 +14,7 @@ use Rattle.promise.proofs.Outcome.{by_test, either_way}
 use Rattle.protocol_codes.specs.declared.CommandCode.TheVariants.{ReadFlashId, ReadFlashInfo, ReadChipInfo, ReadCapability, ReadLBA}
 use Rattle.protocol_codes.specs.declared.Direction.TheVariants.{In}
 use Rattle.protocol_codes.specs.declared.Status as status
-use Rattle.protocol_codes.specs.declared.Status.TheVariants.{SUCCESS, FAILED}
+use Rattle.protocol_codes.specs.declared.Status.TheVariants.{SUCCESS}
 use Rattle.protocol_bytes.specs.Sector.{sector_size}
 use Rattle.protocol.specs.declared.CommandBlock.{CommandBlock}
 use Rattle.mock_base.specs.Flash.{flash_sectors}

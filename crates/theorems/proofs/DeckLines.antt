@@ -1,20 +1,18 @@
 -- Where the lines of a deck end: there are none for no input, and none behind a short block, which is told as 44.
 use Prim.Native.Nat.{ℕ, ◌+◌, ◌<◌}
-use mathlib.Core.Path.{◌≡◌, refl, ap, ◌∙◌, sym}
+use mathlib.Core.Path.{◌≡◌, refl, ap}
 use mathlib.Core.Bool.{Bool, true, false}
 use mathlib.Core.List.{List, [], ◌∷◌, ◌++◌}
 use lib.ListN.{length}
 use borrow.Author.Tests.{lt-ltb}
-use Rattle.promise.specs.Told.{Told, refused}
+use Rattle.promise.specs.Told.{refused}
 use Rattle.promise.specs.Rules.{or_refuse}
-use Rattle.deck_block.specs.declared.Request.{Request}
 use Rattle.deck_block.specs.Block.{block_length}
 use Rattle.deck_block.specs.Reading.{read_by}
 use Rattle.deck.specs.Dealing.{deal_asked, deal_block}
 use Rattle.deck.specs.Deal.{Head, away}
 use Rattle.deck.specs.Bench.{next_tag}
-use Rattle.deck_block.specs.Blocks.{is_short}
-use Rattle.deck_chunk.specs.Deck.{Table, Lines, lines, then_deal, deal_of, deal_next, deal_blocks, deck_start, deck_lines}
+use Rattle.deck_chunk.specs.Deck.{Table, Lines, lines, deal_of, deal_next, deal_blocks, deck_start, deck_lines}
 use Rattle.deck_chunk.proofs.Cuts.{no_input, over_for_good}
 
 pub no_lines : (store : List ℕ) → deck_lines store [] ≡ []

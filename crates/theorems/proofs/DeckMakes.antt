@@ -9,10 +9,9 @@ use borrow.Author.Tests.{eqb-true}
 use lib.Dec.{eqb}
 use lib.ListN.{length, take, drop, replicate}
 use Rattle.promise.specs.Told.{Told, given, refused}
-use Rattle.promise.specs.Rules.{or_refuse}
 use Rattle.promise.specs.Bytes.{AreBytes}
 use Rattle.promise.proofs.Outcome.{by_test, either_way}
-use Rattle.protocol_codes.specs.Numbers.{reset_number, storage_number, storage_indexes}
+use Rattle.protocol_codes.specs.Numbers.{storage_number, storage_indexes}
 use Rattle.protocol_codes.specs.Reading.{by_number, reset_of, storage_of}
 use Rattle.protocol_codes.specs.declared.ResetOpcode.{ResetOpcode}
 use Rattle.protocol_codes.specs.declared.StorageIndex.{StorageIndex}
@@ -24,7 +23,7 @@ use Rattle.operation_finish.specs.declared.Kind.TheVariants as kind
 use Rattle.operation.specs.Record.{fresh}
 use Rattle.maskrom.specs.Whole.{fresh_whole}
 use Rattle.mock_base.specs.declared.cells.Variety.{Variety}
-use Rattle.mock_base.specs.declared.cells.Variety.TheVariants.{First, Nor}
+use Rattle.mock_base.specs.declared.cells.Variety.TheVariants.{First}
 use Rattle.mock_base.specs.declared.config.MockDeviceConfig.{MockDeviceConfig}
 use Rattle.mock_base.specs.Config.{default_config}
 use Rattle.mock.specs.declared.device.MockState.{MockState}

@@ -33,9 +33,8 @@ use Rattle.mock_table.specs.declared.outcome.Effect.{Effect}
 use Rattle.mock_table.specs.declared.outcome.Effect.TheVariants as effect
 use Rattle.mock_table.specs.declared.outcome.ReplyKind.{ReplyKind}
 use Rattle.mock_effects.specs.Effects.{flash_after, pending_after, buffer_after, reply_bytes}
-use Rattle.mock_effects.specs.Steps.{failed, pend}
-use Rattle.protocol_codes.specs.declared.Status as status
-use Rattle.protocol_codes.specs.declared.Status.TheVariants.{SUCCESS, FAILED}
+use Rattle.mock_effects.specs.Steps.{pend}
+use Rattle.protocol_codes.specs.declared.Status.TheVariants.{SUCCESS}
 use Rattle.mock_base.specs.declared.cells.Variety.{Variety}
 use Rattle.mock.specs.declared.device.MockState.{MockState}
 use Rattle.mock.specs.Device.{Call, with_session, write_bulk}

@@ -24,9 +24,9 @@ use Rattle.mock_table.specs.declared.session.LastReset.{LastReset}
 use Rattle.mock_table.specs.declared.outcome.Effect.{Effect}
 use Rattle.mock_table.specs.declared.outcome.Effect.TheVariants.{Nothing}
 use Rattle.mock_effects.specs.Effects.{flash_after, pending_after}
-use Rattle.mock_effects.specs.Steps.{pend, pended}
+use Rattle.mock_effects.specs.Steps.{pend}
 use Rattle.protocol_codes.specs.declared.Status as status
-use Rattle.protocol_codes.specs.declared.Status.TheVariants.{SUCCESS, FAILED}
+use Rattle.protocol_codes.specs.declared.Status.TheVariants.{SUCCESS}
 use Rattle.mock_base.specs.declared.cells.Variety.{Variety}
 use Rattle.mock.specs.declared.device.MockState.{MockState}
 use Rattle.mock.specs.Device.{Call, session_of, with_session, write_bulk}

@@ -14,12 +14,9 @@ use Rattle.operation.specs.declared.steps.Asked.{Asked}
 use Rattle.operation.specs.declared.steps.Asked.TheVariants as asked
 use Rattle.operation.specs.declared.steps.UsbOperation.{UsbOperation}
 use Rattle.operation.specs.Step.{Asks, writes_command, writes_data, reads, finished, usb_step}
-use Rattle.mock.specs.Device.{Call, write_bulk, read_bulk, fresh_state}
+use Rattle.mock.specs.Device.{fresh_state}
 use Rattle.mock.specs.declared.device.MockState.{MockState}
-use Rattle.mock_base.specs.Config.{default_config}
-use Rattle.mock_base.specs.declared.cells.Variety.TheVariants.{First}
 use Rattle.mock_table.specs.Turn.{Quiet}
-use Rattle.mock_table.specs.declared.session.CommandState.{CommandState}
 use Rattle.run_turn.specs.Turn.{UsbState, usb_state, onward, wrote, buffer_for, gives, received, got, transfers, usb_turn}
 use Rattle.run_operation.specs.Run.{run_rules, unstarted, usb_run, whole_budget}
 use Rattle.run_upload.specs.Load.{upload_budget}

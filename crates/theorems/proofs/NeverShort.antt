@@ -11,7 +11,7 @@ use lib.ListN.{length, take, drop, get_or, replicate}
 use Rattle.promise.specs.Told.{Told, given, refused, and_then}
 use Rattle.promise.specs.Rules.{or_refuse}
 use Rattle.promise.specs.Bytes.{front, high_first, low_first, from_low}
-use Rattle.promise.specs.Run.{Turned, ends, goes, tells, Ran, end_told, follow, runs}
+use Rattle.promise.specs.Run.{Turned, ends, goes, Ran, end_told, follow, runs}
 use Rattle.promise.proofs.Outcome.{by_test, either_way}
 use Rattle.protocol_codes.specs.Reading.{status_of}
 use Rattle.protocol_codes.specs.declared.Status.{Status}

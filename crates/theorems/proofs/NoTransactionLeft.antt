@@ -28,7 +28,7 @@ use Rattle.operation.specs.Step.{finished_told, command_step, io_step, status_st
 use Rattle.operation.proofs.Laws.{data_read, data_write, give_keeps}
 use Rattle.mock_table.specs.Turn.{session, done}
 use Rattle.mock_table.specs.declared.session.CommandState.{CommandState}
-use Rattle.mock_table.specs.declared.session.CommandState.TheVariants.{None, IO, Status}
+use Rattle.mock_table.specs.declared.session.CommandState.TheVariants.{None}
 use Rattle.mock.specs.declared.device.MockState.{MockState}
 use Rattle.mock.specs.Device.{session_of, with_session, write_bulk, read_bulk}
 use Rattle.mock_effects.proofs.Frames.{write_long}

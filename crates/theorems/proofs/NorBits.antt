@@ -21,7 +21,7 @@ use Rattle.mock_effects.proofs.Cells.{and_through, write_keeps}
 use Rattle.mock.specs.Device.{session_of, write_bulk, read_bulk}
 use Rattle.mock.specs.Nor.{ErasedBy}
 use Rattle.mock.specs.declared.device.MockState.{MockState}
-use Rattle.run_turn.specs.Turn.{UsbState, usb_state, onward, wrote, buffer_for, gives, received, got, transfers, usb_turn}
+use Rattle.run_turn.specs.Turn.{UsbState, usb_state, onward, wrote, buffer_for, gives, received, transfers, usb_turn}
 use Rattle.run_operation.specs.declared.UsbRun.{UsbRun}
 use Rattle.run_operation.specs.Run.{run_rules, unstarted, usb_run}
 use Rattle.run_operation.specs.Answers.{RunMeets}

@@ -1,6 +1,6 @@
 -- Runs at a head with NOR flash. A write that the cells refuse ends in 15, its steps counted, the operation rearmed, and old AND new left; behind an
 -- erase of its blocks every write is whole and is read back.
-use Prim.Native.Nat.{ℕ, suc, ◌+◌, ◌*◌, ◌<◌, ◌≤◌, ◌^◌}
+use Prim.Native.Nat.{ℕ, ◌+◌, ◌*◌, ◌<◌, ◌≤◌, ◌^◌}
 use mathlib.Core.Path.{◌≡◌, refl, ap, sym, subst, ◌∙◌}
 use mathlib.Core.Bool.{Bool, true}
 use mathlib.Core.List.{List, [], ◌++◌, append_assoc}
@@ -8,13 +8,12 @@ use native.Mathlib.Omega.{arith}
 use lib.Bits.{bit_and}
 use lib.ListN.{length, take, drop, get_or, replicate, length-drop}
 use lib.Seq.{length-take-le, take_at, get_or-drop}
-use borrow.Author.Tests.{eq-eqb}
-use Rattle.promise.specs.Told.{Told, given, refused, number}
-use Rattle.promise.specs.Rules.{pick, unless, or_refuse}
+use Rattle.promise.specs.Told.{Told, given, refused}
+use Rattle.promise.specs.Rules.{pick, or_refuse}
 use Rattle.promise.specs.Bytes.{AreBytes, field, front}
 use Rattle.promise.specs.Over.{over}
 use Rattle.promise.proofs.Over.{field_same}
-use Rattle.promise.specs.Run.{tells, end_told, End, Ran, ran}
+use Rattle.promise.specs.Run.{tells, Ran}
 use Rattle.protocol_bytes.specs.Signature.{same}
 use Rattle.protocol_bytes.specs.Sector.{sector_size}
 use Rattle.protocol_codes.specs.declared.CommandCode.{CommandCode}
@@ -26,21 +25,21 @@ use Rattle.protocol.specs.Commands.{sector_command, read_lba_command, write_lba_
 use Rattle.protocol.specs.declared.CommandBlock.{CommandBlock}
 use Rattle.operation_finish.specs.Reply.{Reply, nothing, moved}
 use Rattle.operation_finish.specs.Transfer as transfer
-use Rattle.operation_finish.specs.Finish.{reply_by, sector_reply}
+use Rattle.operation_finish.specs.Finish.{reply_by}
 use Rattle.operation_finish.specs.declared.Kind.TheVariants as kind
 use Rattle.operation_finish.proofs.Cases.{sectors_whole}
-use Rattle.operation.specs.Record.{fresh, command_out}
+use Rattle.operation.specs.Record.{fresh}
 use Rattle.operation.specs.declared.steps.Operation.TheVariants as operation
 use Rattle.mock_base.specs.Flash.{flash_sectors, fits_in}
 use Rattle.mock_base.specs.declared.config.MockDeviceConfig.{MockDeviceConfig}
 use Rattle.mock_base.specs.declared.cells.Variety.{Variety}
-use Rattle.mock_base.specs.declared.cells.Variety.TheVariants.{First, Nor}
+use Rattle.mock_base.specs.declared.cells.Variety.TheVariants.{Nor}
 use Rattle.mock_base.proofs.Fitting.{fits_sectors, sectors_fit, whole_sectors}
 use Rattle.mock_table.specs.Turn.{has_code, is_out, refuses, done}
 use Rattle.mock_table.specs.Ways.{stored_by, moved_by}
 use Rattle.mock_table.specs.Table.{range_of, write_io_turn}
 use Rattle.mock_table.specs.Erasing.{Erases, Splits}
-use Rattle.mock_table.specs.declared.session.CommandState.TheVariants.{None, Status}
+use Rattle.mock_table.specs.declared.session.CommandState.TheVariants.{None}
 use Rattle.mock_table.specs.declared.outcome.Effect.TheVariants as effect
 use Rattle.mock_table.proofs.Touches.{erases_fill, splits_63}
 use Rattle.mock_effects.specs.Effects.{erased, programmed, cells_told, flash_after, pending_after}
@@ -56,7 +55,7 @@ use Rattle.run_turn.specs.Turn.{UsbState, usb_state}
 use Rattle.run_operation.specs.declared.UsbRun.{UsbRun}
 use Rattle.run_operation.specs.Run.{sector_data, whole_budget}
 use Rattle.run_operation.specs.Answers.{answer_end, RunMeets}
-use Rattle.theorems.specs.Runs.{operation_run, rearmed}
+use Rattle.theorems.specs.Runs.{operation_run}
 use Rattle.theorems.specs.Standing.{Standing, AtCommand}
 use Rattle.theorems.specs.Told.{by_status}
 use Rattle.theorems.proofs.BetweenRuns.{operation_stands}

@@ -45,7 +45,7 @@ use Rattle.operation.specs.declared.giving.Giving.{Giving}
 use Rattle.operation.specs.declared.giving.Giving.TheVariants as giving
 use Rattle.operation.specs.declared.giving.UsbGiven.{UsbGiven}
 use Rattle.operation.specs.Record.{io_of, transfer_length, inband_length}
-use Rattle.operation.specs.Step.{Asks, Step, finished_told, command_step, io_step, status_step, finish_step, step_of, usb_step, step_told, beside_asks, beside_at, StepMeets}
+use Rattle.operation.specs.Step.{Step, finished_told, command_step, io_step, status_step, finish_step, step_of, usb_step, step_told, beside_asks, beside_at, StepMeets}
 use Rattle.operation.specs.Give.{Give, nothing_asked, asks_for, owed, received, give_of, usb_give, giving_told, GiveMeets}
 use Rattle.operation.specs.Made.{Made, stepped, gave}
 

@@ -21,7 +21,7 @@ use Rattle.protocol_codes.specs.declared.ResetOpcode.{ResetOpcode}
 use Rattle.protocol_codes.specs.declared.StorageIndex.{StorageIndex}
 use Rattle.protocol_codes.specs.declared.StorageIndex.TheVariants.{SpiNor}
 use Rattle.protocol_codes.specs.declared.Status as status
-use Rattle.protocol_codes.specs.declared.Status.TheVariants.{SUCCESS, FAILED}
+use Rattle.protocol_codes.specs.declared.Status.TheVariants.{SUCCESS}
 use Rattle.protocol_codes.specs.Reading.{storage_of, by_number}
 use Rattle.protocol_codes.proofs.Back.{reset_back}
 use Rattle.protocol_reply.specs.Media.{read_storage, only_place, places_set}

@@ -11,9 +11,8 @@ use lib.ListN.{length, take}
 use borrow.Author.Tests.{ltb-false, le-ltb}
 use Rattle.promise.specs.Told.{Told, given, refused}
 use Rattle.promise.specs.Rules.{or_refuse}
-use Rattle.promise.specs.Run.{Turned, ends, goes, tells, out_of_steps, Ran, counted, follow, runs}
+use Rattle.promise.specs.Run.{Turned, ends, goes, out_of_steps, Ran, counted, follow, runs}
 use Rattle.promise.proofs.Outcome.{Met, either_way}
-use Rattle.promise.proofs.Resumed.{enough}
 use Rattle.protocol.specs.declared.CommandBlock.{CommandBlock}
 use Rattle.mock_base.specs.Flash.{flash_rules}
 use Rattle.mock_effects.proofs.Frames.{write_long}

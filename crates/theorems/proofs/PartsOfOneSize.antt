@@ -10,7 +10,7 @@ use borrow.Author.Tests.{eqb-true}
 use Rattle.promise.specs.Told.{Told, given, refused, number}
 use Rattle.promise.specs.Bytes.{front}
 use Rattle.promise.specs.Does.{Does, does, said, sent, after}
-use Rattle.promise.specs.Run.{tells, end_told, Ran, follow, runs}
+use Rattle.promise.specs.Run.{end_told, Ran, follow, runs}
 use Rattle.promise.proofs.Outcome.{on_test}
 use Rattle.maskrom.specs.declared.MaskRomOperation.{MaskRomOperation}
 use Rattle.maskrom.specs.declared.PartStep.{PartStep}

@@ -36,7 +36,7 @@ use Rattle.mock_table.specs.declared.outcome.Effect.TheVariants.{Nothing}
 use Rattle.mock_table.specs.Table.{start_turn, write_row, write_turn}
 use Rattle.mock_table.specs.declared.session.CommandState.TheVariants as state
 use Rattle.mock_effects.specs.Effects.{flash_after, pending_after}
-use Rattle.mock_effects.specs.Steps.{pend, pended, write_step_of, write_step_by, written_status}
+use Rattle.mock_effects.specs.Steps.{pend, write_step_of, write_step_by, written_status}
 use Rattle.mock.specs.Device.{Call, write_bulk, read_bulk, session_of}
 use Rattle.mock.specs.declared.device.MockState.{MockState}
 use Rattle.mock_effects.proofs.Frames.{write_long}

@@ -7,7 +7,7 @@ use mathlib.Core.List.{List}
 use lib.ListN.{length}
 use Rattle.promise.specs.Told.{Told, given, refused, and_then}
 use Rattle.promise.specs.Does.{Does, does, said, sent, after as becomes}
-use Rattle.promise.specs.Run.{Turned, ends, goes, tells, out_of_steps, Ran, counted, follow, runs}
+use Rattle.promise.specs.Run.{Turned, ends, goes, out_of_steps, Ran, counted, follow, runs}
 use Rattle.promise.proofs.Outcome.{Met, either_way}
 use Rattle.maskrom_transfer.specs.declared.Moved.{Moved}
 use Rattle.maskrom_transfer.specs.Moves.{block_size}

@@ -4,14 +4,12 @@ use Rattle.promise.specs.Told.{given}
 use Rattle.mock_base.specs.Flash.{flash_sectors}
 use Rattle.mock_table.specs.declared.session.CommandState.TheVariants.{None}
 use Rattle.mock.specs.declared.device.MockState.{MockState}
-use Rattle.operation_finish.specs.Reply.{capability}
 use Rattle.mock_base.specs.declared.cells.Variety.{Variety}
 use Rattle.mock_base.specs.declared.config.MockDeviceConfig.{MockDeviceConfig}
 use Rattle.mock_table.specs.Turn.{session}
 use Rattle.mock.specs.Device.{with_session, with_areas}
 use Rattle.run_turn.specs.Turn.{UsbState}
 use Rattle.mock_areas.specs.Contents.{Sound}
-use Rattle.protocol.specs.declared.CommandBlock.{CommandBlock}
 use Rattle.operation.specs.declared.steps.Operation.TheVariants as operation
 use Rattle.operation.specs.Record.{transfer_length}
 use Rattle.mock_table.specs.declared.session.CommandState.TheVariants as state
