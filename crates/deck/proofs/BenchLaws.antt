@@ -1,6 +1,6 @@
 -- The flash at the start of a bench, by the answer that the code makes.
-use Rattle.std.proofs.Common.{◌≡◌, ℕ, List, length, replicate, refl, ap, ◌∙◌, arith}
-use Rattle.promise.specs.Told.{Told, given, refused, and_then}
+use Rattle.std.proofs.Common.{◌≡◌, ℕ, List, length, replicate, refl, ap, arith}
+use Rattle.promise.specs.Told.{Told, given, refused}
 use Rattle.mock_base.specs.Told.{result_told, Answers}
 use Rattle.mock_base.specs.Config.{default_byte}
 use Rattle.mock_base.specs.declared.error.MockAnswer.{MockAnswer}

@@ -1,5 +1,5 @@
 -- The bytes that are lent, the operation or upload that is started, and a request taken to what is done for it.
-use Rattle.std.proofs.Common.{◌≡◌, ℕ, ◌+◌, ◌-◌, ◌*◌, ◌/◌, ◌%◌, ◌≤◌, List, [], ◌∷◌, ◌++◌, length, take, replicate, sym, refl, ap, ◌∙◌, subst, arith, take_at, le-ltb}
+use Rattle.std.proofs.Common.{◌≡◌, ℕ, ◌+◌, ◌-◌, ◌*◌, ◌/◌, ◌%◌, ◌≤◌, List, [], ◌∷◌, length, take, replicate, sym, refl, ap, ◌∙◌, subst, arith, take_at, le-ltb}
 use lib.ListN.{length-replicate, replicate-append-replicate}
 use types.Run.{OneOf, miss}
 use denote.Enum.Declared.{tag_of}

@@ -1,16 +1,15 @@
 -- Programs that the contracts of the bench rule out, whatever their proofs: each answer is refuted at a named bench.
-use Rattle.std.proofs.Common.{◌≡◌, ℕ, List, [], ◌∷◌, length, get_or, replicate, sym, refl, ap, ◌∙◌, arith}
+use Rattle.std.proofs.Common.{◌≡◌, ℕ, List, [], ◌∷◌, get_or, replicate, sym, refl, ap, ◌∙◌, arith}
 use Rattle.promise.specs.Told.{Told, given, refused, and_then}
 use Rattle.promise.specs.Rules.{or_refuse}
 use Rattle.mock_base.specs.Flash.{flash_rules, flash_sectors}
 use Rattle.mock_base.specs.Told.{result_told}
 use Rattle.mock_base.specs.declared.error.MockResult.{MockResult}
 use Rattle.mock_base.specs.declared.error.MockResult.TheVariants.{Done}
-use Rattle.mock.specs.declared.device.MockState.{MockState}
 use Rattle.deck.specs.declared.bench.Bench.{Bench}
 use Rattle.deck.specs.declared.bench.BenchStart.{BenchStart}
 use Rattle.deck.specs.declared.bench.DeckStep.{DeckStep}
-use Rattle.deck.specs.Bench.{fresh_bench, bench_at, start_told, start_flash, StartMeets, StepMeets}
+use Rattle.deck.specs.Bench.{fresh_bench, start_told, start_flash, StartMeets, StepMeets}
 
 -- a bench whose first block has the tag 2
 pub first_block_is_2 : (r : BenchStart) (after flash : List ℕ) (n : ℕ) → r.bench.tag ≡ 1 → StartMeets r after flash n → ⊥

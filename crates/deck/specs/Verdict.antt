@@ -1,5 +1,5 @@
 -- What is told of a block: a reply, or the number of a refusal alone.
-use Rattle.std.specs.Prelude.{ℕ, []}
+use Rattle.std.specs.Prelude.{[]}
 use Rattle.promise.specs.Told.{Told, given, refused}
 use Rattle.protocol_bytes.specs.Signature.{no_signature}
 use Rattle.operation_finish.specs.Reply.{Reply, nothing, reply_given, blank, beside_reply}
