@@ -5,9 +5,9 @@ use mathlib.Core.Bool.{Bool, true, false}
 use mathlib.Core.List.{List, [], ◌∷◌, ◌++◌, append_assoc, append-nil}
 use native.Mathlib.Omega.{arith}
 use lib.Dec.{ltb}
-use lib.ListN.{length, take, drop, replicate, length-append, length-replicate, length-take, take-append-drop}
+use lib.ListN.{length, take, drop, replicate, length-append, length-replicate, take-append-drop}
 use lib.Seq.{take-append_seam, drop-drop, length-take-le}
-use Rattle.promise.specs.Rules.{pick, or_refuse}
+use Rattle.promise.specs.Rules.{or_refuse}
 use Rattle.promise.specs.Bytes.{front}
 use Rattle.promise.specs.Over.{over}
 use Rattle.promise.proofs.Over.{over_nothing, length_over, drop_over, field_grows}
@@ -22,10 +22,9 @@ use Rattle.deck_chunk.specs.declared.Deck.{Deck}
 use Rattle.deck_chunk.specs.declared.Lined.{Lined}
 use Rattle.deck_chunk.specs.declared.Progress.{Progress}
 use Rattle.deck_chunk.specs.Deck.{Table, table, Lines, lines, then_deal, table_after, deal_next, deal_blocks, deal_all}
-use Rattle.deck_chunk.specs.declared.ChunkCount.{ChunkCount}
 use Rattle.deck_chunk.specs.declared.ChunkAnswer.TheVariants.{Dealt, TooShort}
 use Rattle.deck_chunk.specs.Chunk.{chunk_told, Chunk, chunk_dealt, deal_chunk, ChunkMeets}
-use Rattle.promise.specs.Told.{Told, given}
+use Rattle.promise.specs.Told.{given}
 use Rattle.deck_chunk.specs.Code.{LinedMeets, NextMeets, DoneMeets}
 
 -- a part as long as itself

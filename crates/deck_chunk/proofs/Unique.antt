@@ -1,7 +1,7 @@
 -- Two steps that the contract allows are equal, and so are the lines, the flash and the store that they leave.
 use Prim.Native.Nat.{ℕ}
 use mathlib.Core.Path.{◌≡◌, refl, ap, ap₂, sym, ◌∙◌}
-use mathlib.Core.List.{List, []}
+use mathlib.Core.List.{List}
 use Rattle.promise.specs.Told.{Told, given, refused}
 use Rattle.deck_chunk.specs.declared.Deck.{Deck}
 use Rattle.deck_chunk.specs.declared.ChunkCount.{ChunkCount}

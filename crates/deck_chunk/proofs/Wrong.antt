@@ -1,10 +1,10 @@
 -- Programs that the contracts rule out, whatever their proofs: each answer is refuted at a named chunk.
 use Prim.Native.Nat.{ℕ, ◌+◌}
-use mathlib.Core.Path.{◌≡◌, refl, ap, sym, ◌∙◌}
+use mathlib.Core.Path.{◌≡◌, ap, sym, ◌∙◌}
 use mathlib.Core.Bool.{Bool, true, false}
 use mathlib.Core.List.{List, [], ◌∷◌}
 use native.Mathlib.Omega.{arith}
-use lib.ListN.{length, replicate}
+use lib.ListN.{replicate}
 use Rattle.promise.specs.Told.{Told, given, refused, number}
 use Rattle.promise.specs.Rules.{or_refuse, pick}
 use Rattle.mock.specs.declared.device.MockState.{MockState}
@@ -18,7 +18,7 @@ use Rattle.deck_chunk.specs.declared.ChunkCount.{ChunkCount}
 use Rattle.deck_chunk.specs.declared.ChunkAnswer.TheVariants.{Dealt, TooShort}
 use Rattle.deck_chunk.specs.declared.ChunkStep.{ChunkStep}
 use Rattle.deck_chunk.specs.Deck.{Table, table, new_deck, deal_next, deal_blocks}
-use Rattle.deck_chunk.specs.Chunk.{chunk_told, Chunk, deal_chunk, ChunkMeets}
+use Rattle.deck_chunk.specs.Chunk.{chunk_told, deal_chunk, ChunkMeets}
 
 -- 20 told as 0
 pub short_is_0 : 0 ≡ number (chunk_told TooShort) → ⊥

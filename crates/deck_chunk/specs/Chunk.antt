@@ -5,7 +5,6 @@ use Rattle.promise.specs.Bytes.{front}
 use Rattle.promise.specs.Rules.{Rule, room_rule, too_short, or_refuse}
 use Rattle.deck_line.specs.Line.{longest_line}
 use Rattle.deck_block.specs.Blocks.{begun}
-use Rattle.deck_chunk.specs.declared.Deck.{Deck}
 use Rattle.deck_chunk.specs.declared.ChunkCount.{ChunkCount}
 use Rattle.deck_chunk.specs.declared.ChunkAnswer.{ChunkAnswer}
 use Rattle.deck_chunk.specs.declared.ChunkAnswer.TheVariants.{Dealt, TooShort}

@@ -3,12 +3,12 @@ use Rattle.std.specs.Prelude.{ℕ, ◌+◌, ◌≤◌, ◌≡◌, List, length}
 use Rattle.promise.specs.Bytes.{front}
 use Rattle.promise.specs.Over.{over}
 use Rattle.deck.specs.declared.bench.Bench.{Bench}
-use Rattle.deck.specs.Deal.{Deal, Head, head}
+use Rattle.deck.specs.Deal.{head}
 use Rattle.deck.specs.Bench.{next_tag, next_number, bench_at, next_deal}
 use Rattle.deck_line.specs.Line.{line_text, line, longest_line}
 use Rattle.deck_chunk.specs.declared.Lined.{Lined}
 use Rattle.deck_chunk.specs.declared.Progress.{Progress}
-use Rattle.deck_chunk.specs.Deck.{Table, table, Lines, deal_next}
+use Rattle.deck_chunk.specs.Deck.{table, Lines}
 
 -- the line of a block, and what the block leaves
 pub record LinedMeets (r : Lined) (flash store : List ℕ) (bench : Bench) (block before held : List ℕ) : Type 0 where

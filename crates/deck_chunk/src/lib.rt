@@ -11,9 +11,9 @@ ghost use Rattle.deck_chunk.specs.Deck.{table, new_deck, deal_next, deal_all};
 ghost use Rattle.deck_chunk.specs.Chunk.{chunk_told, deal_chunk, ChunkMeets};
 ghost use Rattle.deck_chunk.specs.Code.{LinedMeets, NextMeets, DoneMeets};
 
-use lent_bytes;
 use deck::bench::Bench;
 use deck_line::{Line, line_of};
+use lent_bytes;
 
 const BLOCK: usize = 512;
 
