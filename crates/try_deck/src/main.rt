@@ -2,14 +2,22 @@
 
 #![tactic(auto)]
 
+ghost use Rattle.deck_io.specs.Counts.{IsPrefixLen};
+
 use deck::bench::{Bench, BenchStart};
 use deck_chunk::{ChunkAnswer, Deck};
 use deck_io::input::read_full;
-use deck_io::within;
 use std::io::{Result, Write};
 
 // More turns than any of the decks has chunks: the chunks behind its end are empty.
 const TURNS: usize = 20;
+
+// `n`, or the slice's length where that is less.
+fn within(n: usize, s: &[u8]) -> usize
+    ensures { IsPrefixLen result s.now }
+{
+    if n < s.len() { n } else { s.len() }
+}
 
 fn print<W: Write>(to: &mut W, text: &[u8]) -> Result<()> {
     to.write_all(text)
