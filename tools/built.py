@@ -12,6 +12,7 @@ call `built` from Python.
 """
 import os
 import re
+import shutil
 import subprocess
 import sys
 import threading
@@ -60,6 +61,18 @@ class Crates:
         if name not in self.used or not os.path.isfile(os.path.join(folder, "src", "main.rt")):
             raise Failed(f"'{name}' is no program of crates.txt with a src/main.rt")
         return folder
+
+
+def copied(name, room):
+    """Copies a crate and those that it stands on, as a repository of its own, to a folder; what rt made of them stays behind. The folder has to
+    stand outside of this repository: rt ci refuses one that has sources twice."""
+    crates = Crates()
+    below = crates.below(name)
+    with open(os.path.join(room, "crates.txt"), "w", encoding="utf-8") as file, open(os.path.join(ROOT, "crates.txt"), encoding="utf-8") as lines:
+        file.writelines(line for line in lines if line.split(":")[0].split() and line.split(":")[0].split()[0] in below)
+    for one in below:
+        shutil.copytree(os.path.join(ROOT, "crates", one), os.path.join(room, "crates", one), ignore=shutil.ignore_patterns("out"))
+    return os.path.join(room, "crates", name)
 
 
 def built(name, root=ROOT, say=quiet):
