@@ -9,7 +9,7 @@ has_first_check-requires c = c.requires
 pub returns-then-not-has_first_check : goal.returns-then-not-has_first_check
 returns-then-not-has_first_check c =
     record {
-      right = sym (c.if-not-has_first_check.true) ∙ c.has_first_check.ensures;
+      right = sym c.if-not-has_first_check.true ∙ c.has_first_check.ensures;
       leaves = refl;
     }
 
@@ -20,7 +20,7 @@ pub returns : goal.returns
 returns c =
     let looked = c.has_first_check in
     record {
-      right = sym (c.if-not-has_first_check.false) ∙ looked.ensures;
+      right = sym c.if-not-has_first_check.false ∙ looked.ensures;
       leaves =
           c.put_check.ensures
           ∙ put_right c.args.tag _ c.args.block.now c.requires c.block_check-check.ensures;

@@ -5,25 +5,20 @@ use Rattle.deck_recheck.specs.Code.{BlockMeets}
 use Rattle.deck_recheck.proofs.Laws.{next_none, next_short, next_bad, next_right}
 use borrow.Enum.Refused.{opened}
 use Rattle.deck_recheck.proofs.recheck_next.Goals as goal
-use Rattle.deck_recheck.proofs.recheck_next.Goals.{After-recheck_block, After-recheck_block-arg-1}
+use Rattle.deck_recheck.proofs.recheck_next.Goals.{After-recheck_block}
 
 -- the part that is lent is the block
-lent : (c : After-recheck_block-arg-1)
-    → let a = c.args in
-    take (a.step.bytes + 512 - a.step.bytes) (drop a.step.bytes a.chunk.now) ≡ block_at a.step.bytes a.chunk.now
-lent c =
-    let a = c.args in
-    let k : a.step.bytes + 512 - a.step.bytes ≡ 512 = omega arith in
-    ap (λ (n : ℕ). take n (drop a.step.bytes a.chunk.now)) k
+lent : (from : ℕ) (chunk : List ℕ) → take (from + 512 - from) (drop from chunk) ≡ block_at from chunk
+lent from chunk =
+    let k : from + 512 - from ≡ 512 = omega arith in
+    ap (λ (n : ℕ). take n (drop from chunk)) k
 
 met : (c : After-recheck_block)
     → let a = c.args in
     BlockMeets c.recheck_block.result c.recheck_block.new.block c.wrapping_add_u32-tag.result (block_at a.step.bytes a.chunk.now)
 met c =
     subst (λ (b : List ℕ). BlockMeets c.recheck_block.result c.recheck_block.new.block c.wrapping_add_u32-tag.result b)
-    ((let a = c.args in
-    let k : a.step.bytes + 512 - a.step.bytes ≡ 512 = omega arith in
-    ap (λ (n : ℕ). take n (drop a.step.bytes a.chunk.now)) k)) c.recheck_block.ensures
+    (lent c.args.step.bytes c.args.chunk.now) c.recheck_block.ensures
 
 pub returns-in_default : goal.returns-in_default
 returns-in_default c =
@@ -36,18 +31,18 @@ returns-then-chunk-from-lt-BLOCK c =
     c.step_at.ensures c.if-chunk-from-lt-BLOCK.true (omega (arith, c.requires))
 
 pub recheck_block-requires : goal.recheck_block-requires
-recheck_block-requires c = ap length (lent (goal.at.recheck_block-requires c).After-recheck_block-arg-1) ∙ (simp (length-take, length-drop) (let long = c.if-chunk-from-lt-BLOCK.false in omega (arith, c.requires)))
+recheck_block-requires c = ap length (lent c.args.step.bytes c.args.chunk.now) ∙ (simp (length-take, length-drop) (let long = c.if-chunk-from-lt-BLOCK.false in omega (arith, c.requires)))
 
 pub returns-then-not-recheck_block : goal.returns-then-not-recheck_block
 returns-then-not-recheck_block c =
     next_bad c.args.step c.args.chunk.now _ _ _ c.in-NotYet.is
     c.wrapping_add_u64-number.ensures.value c.wrapping_add_u32-tag.ensures.value
     (c.args.step.bytes + 512 - c.args.step.bytes) _ _ (omega arith) (let long = c.if-chunk-from-lt-BLOCK.false in omega (arith, c.requires)) refl c.step_at-then-not-recheck_block.ensures
-    c.recheck_block.result (c.if-not-recheck_block.true) (met (goal.at.returns-then-not-recheck_block c).After-recheck_block)
+    c.recheck_block.result c.if-not-recheck_block.true (met (goal.at.returns-then-not-recheck_block c).After-recheck_block)
 
 pub returns : goal.returns
 returns c =
     next_right c.args.step c.args.chunk.now _ _ _ c.in-NotYet.is
     c.wrapping_add_u64-number.ensures.value c.wrapping_add_u32-tag.ensures.value
     (c.args.step.bytes + 512 - c.args.step.bytes) _ _ (omega arith) (let long = c.if-chunk-from-lt-BLOCK.false in omega (arith, c.requires)) refl c.step_at-2.ensures
-    c.recheck_block.result (c.if-not-recheck_block.false) (met (goal.at.returns c).After-recheck_block)
+    c.recheck_block.result c.if-not-recheck_block.false (met (goal.at.returns c).After-recheck_block)
