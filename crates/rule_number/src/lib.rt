@@ -1,4 +1,4 @@
-// The number that the rules have for an answer.
+// The number that the rules have for an answer, and the refusals that answers of several kinds share.
 
 #![tactic(auto)]
 
@@ -22,5 +22,29 @@ impl<T: Drop, E: RuleNumber> RuleNumber for Result<T, E> {
             Ok(_) => 0,
             Err(error) => error.number(),
         }
+    }
+}
+
+// 20: the output is too short.
+#[derive(Clone, Copy, Debug, PartialEq, Eq)]
+pub struct OutputTooShort;
+
+impl RuleNumber for OutputTooShort {
+    ghost rule_number = { λ refusal. 20 };
+
+    fn number(self) -> u8 {
+        20
+    }
+}
+
+// 28: the budget was used before a finish or a refusal.
+#[derive(Clone, Copy, Debug, PartialEq, Eq)]
+pub struct OutOfSteps;
+
+impl RuleNumber for OutOfSteps {
+    ghost rule_number = { λ refusal. 28 };
+
+    fn number(self) -> u8 {
+        28
     }
 }
