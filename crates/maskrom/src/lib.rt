@@ -186,7 +186,7 @@ impl MaskRomOperation {
         ensures { result ≡ holding self more.now }
     {
         let at = (self.taken % 4096) as usize;
-        lent_bytes::copy(more, &mut self.block[at..]);
+        self.block[at..at + more.len()].copy_from_slice(more);
         self.taken += more.len() as u32;
         self.crc = crc::update(self.crc, more);
         self
@@ -219,8 +219,8 @@ impl MaskRomOperation {
         if at + n < BLOCK {
             return next.after_part(Ok(PartStep::Taken(n)));
         }
-        let size = lent_bytes::copy(&next.block, out);
-        next.after_part(Ok(PartStep::WriteControl(n, control_of(self.area, size))))
+        out[..BLOCK].copy_from_slice(&next.block);
+        next.after_part(Ok(PartStep::WriteControl(n, control_of(self.area, BLOCK))))
     }
 
     fn moved_to(mut self, moved: Moved) -> MaskRomOperation

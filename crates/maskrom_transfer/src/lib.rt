@@ -34,7 +34,9 @@ fn put(bytes: &[u8], out: &mut [u8]) -> usize
     requires { length bytes.now ≤ length out.old }
     ensures { PutMeets result bytes.now out.old out.new }
 {
-    lent_bytes::copy(bytes, out)
+    let n = bytes.len();
+    out[..n].copy_from_slice(bytes);
+    n
 }
 
 // The same with a zero behind them.
