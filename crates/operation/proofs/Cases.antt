@@ -12,8 +12,6 @@ use Rattle.promise.specs.Rules.{pick, or_refuse}
 use Rattle.promise.specs.Bytes.{front, high_first, low_first}
 use Rattle.protocol_bytes.specs.Signature.{no_signature, signature_in}
 use Rattle.protocol_bytes.specs.Writing.{writing, written_told, WriteMeets}
-use Rattle.protocol_bytes.specs.declared.output.Written.{Written}
-use Rattle.protocol_bytes.specs.declared.output.Written.TheVariants.{Bytes, TooShort}
 use Rattle.protocol.specs.CommandBytes.{command_bytes, write_command}
 use Rattle.protocol.specs.declared.CommandBlock.{CommandBlock}
 use Rattle.operation_finish.specs.Reply.{Reply, blank, beside_of, FinishMeets}
@@ -32,6 +30,9 @@ use Rattle.operation.specs.Record.{transfer_length, commanded, command_out, turn
 use Rattle.operation.specs.Step.{Asks, writes_command, does, stays, command_step, sector_step, finished_told, step_told, beside_asks, beside_at, step_of, StepMeets}
 use Rattle.operation.specs.Code.{sectored, plain, gave}
 use Rattle.operation.specs.Give.{keeps, nothing_asked, asks_for, owed, received, give_of, giving_told, GiveMeets}
+use Rattle.std.specs.Prelude.{Result}
+use Rattle.rule_number.specs.declared.OutputTooShort.{OutputTooShort}
+use Rattle.std.specs.declared.result.Result.TheVariants.{Ok, Err}
 
 -- an answer with nothing beside it
 pub plain_meets : (answer : UsbStep) (next : UsbOperation) (told : Told Asks) (sent old new : List ℕ) (r : UsbStepped)
@@ -53,13 +54,13 @@ unfolding step_told beside_at beside_of signature_in
 refused_20 op old new r e l = plain_meets _ _ _ _ old new r e refl refl l
 
 -- the command's writer refused, or wrote its 24 bytes
-module _ (command : CommandBlock) (before after : List ℕ) (r : Written) where
+module _ (command : CommandBlock) (before after : List ℕ) (r : Result ℕ OutputTooShort) where
   short_at : (t : Bool) → ltb (length before) 31 ≡ t → ◌≡◌ {A = Told ℕ} (refused 20 []) (pick t (refused 20 []) (given 31))
       → after ≡ front (pick t [] (command_bytes command)) before → (length before < 31) × (after ≡ before)
   short_at true e h l = (ltb-true (length before) 31 e, l)
   short_at false e h l = let z : ◌≡◌ {A = ℕ} 0 1 = cc in absurd (omega arith)
 
-  pub written_short : r ≡ TooShort → WriteMeets r before after (write_command command (length before)) → (length before < 31) × (after ≡ before)
+  pub written_short : r ≡ (Err (record {})) → WriteMeets r before after (write_command command (length before)) → (length before < 31) × (after ≡ before)
   unfolding write_command writing or_refuse written_told
   written_short e m = short_at (ltb (length before) 31) refl (ap written_told (sym e) ∙ m.tells) m.leaves
 
@@ -68,7 +69,7 @@ module _ (command : CommandBlock) (before after : List ℕ) (r : Written) where
   whole_at true n e h l = let z : ◌≡◌ {A = ℕ} 0 1 = cc in absurd (omega arith)
   whole_at false n e h l = (ltb-false (length before) 31 e, l)
 
-  pub written_whole : (n : ℕ) → r ≡ Bytes n → WriteMeets r before after (write_command command (length before))
+  pub written_whole : (n : ℕ) → r ≡ Ok n → WriteMeets r before after (write_command command (length before))
       → (31 ≤ length before) × (after ≡ front (command_bytes command) before)
   unfolding write_command writing or_refuse written_told
   written_whole n e m = whole_at (ltb (length before) 31) n refl (ap written_told (sym e) ∙ m.tells) m.leaves

@@ -9,8 +9,6 @@ use Rattle.protocol_status.specs.Failure.{failure_number, failure_values}
 use Rattle.protocol_status.specs.declared.failure.UsbOperationError.TheVariants.{TagMismatch, InvalidStatusSignature, InvalidStatusStatus, InvalidStatusLength, ReplyParseFailure, FailedStatus}
 use Rattle.operation_finish.specs.Reply.{finish_told}
 use Rattle.operation_finish.specs.declared.Beside.{Beside}
-use Rattle.operation_finish.specs.declared.FinishAnswer.{FinishAnswer}
-use Rattle.operation_finish.specs.declared.FinishAnswer.TheVariants.{Replied, Failed}
 use Rattle.operation_finish.proofs.Unique.{answer_of, answer_of_lem}
 use Rattle.operation.specs.declared.steps.Asked.{Asked}
 use Rattle.operation.specs.declared.steps.Asked.TheVariants as asked
@@ -23,6 +21,10 @@ use Rattle.operation.specs.declared.giving.Giving.TheVariants as giving
 use Rattle.operation.specs.declared.giving.UsbGiven.{UsbGiven}
 use Rattle.operation.specs.Step.{Asks, writes_command, writes_data, reads, finished, Step, finished_told, step_told, StepMeets}
 use Rattle.operation.specs.Give.{Give, giving_told, GiveMeets}
+use Rattle.std.specs.Prelude.{Result}
+use Rattle.operation_finish.specs.declared.UsbReply.{UsbReply}
+use Rattle.protocol_status.specs.declared.failure.UsbOperationError.{UsbOperationError}
+use Rattle.std.specs.declared.result.Result.TheVariants.{Ok, Err}
 
 -- a refusal that only a step has, or one of its finish
 abbrev refusal_of : ℕ → List ℕ → UsbStep
@@ -42,15 +44,15 @@ step_for (given (reads a n)) = read_of a n
 step_for (given (finished reply)) = step.Finished (answer_of (given reply))
 step_for (refused n values) = refusal_of n values
 
-finished_for : (a : FinishAnswer) (b : Beside) → step_for (finished_told (finish_told a b)) ≡ step.Finished (answer_of (finish_told a b))
+finished_for : (a : Result UsbReply UsbOperationError) (b : Beside) → step_for (finished_told (finish_told a b)) ≡ step.Finished (answer_of (finish_told a b))
 unfolding finished_told and_then finish_told failure_number failure_values
-finished_for (Replied reply) b = refl
-finished_for (Failed TagMismatch) b = refl
-finished_for (Failed InvalidStatusSignature) b = refl
-finished_for (Failed (InvalidStatusStatus byte)) b = refl
-finished_for (Failed InvalidStatusLength) b = refl
-finished_for (Failed ReplyParseFailure) b = refl
-finished_for (Failed FailedStatus) b = refl
+finished_for (Ok reply) b = refl
+finished_for (Err TagMismatch) b = refl
+finished_for (Err InvalidStatusSignature) b = refl
+finished_for (Err (InvalidStatusStatus byte)) b = refl
+finished_for (Err InvalidStatusLength) b = refl
+finished_for (Err ReplyParseFailure) b = refl
+finished_for (Err FailedStatus) b = refl
 
 pub step_for_lem : (x : UsbStep) (b : Beside) → step_for (step_told x b) ≡ x
 unfolding step_told

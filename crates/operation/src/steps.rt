@@ -7,9 +7,11 @@ ghost use Rattle.operation.specs.Step.{step_told, StepMeets, command_step, io_st
 ghost use Rattle.operation.specs.Code.{plain, sectored};
 
 use lent_bytes;
-use operation_finish::{Beside, FinishAnswer, Kind, finish_of};
+use operation_finish::{Beside, Kind, UsbReply, finish_of};
 use protocol::CommandBlock;
-use protocol_bytes::output::Written;
+use protocol_status::failure::UsbOperationError;
+use rule_number::OutputTooShort;
+use rule_number::RuleNumber;
 
 // Where an operation stands: what its next step does.
 #[derive(Clone, Copy)]
@@ -59,7 +61,7 @@ pub enum UsbStep {
     ReadInband(usize),
     ReadData(usize),
     ReadStatus(usize),
-    Finished(FinishAnswer),
+    Finished(Result<UsbReply, UsbOperationError>),
     // 20
     OutputTooShort,
     // 27
@@ -205,7 +207,7 @@ impl UsbOperation {
         ensures { StepMeets result out.old out.new (command_step self (length out.old)) }
     {
         let command = self.command;
-        let Written::Bytes(_) = command.to_bytes(out) else {
+        let Ok(_) = command.to_bytes(out) else {
             return self.answers(UsbStep::OutputTooShort);
         };
         zero_tail(out);
