@@ -3,9 +3,10 @@ use Prim.Native.Nat.{ℕ}
 use mathlib.Core.Path.{◌≡◌, refl, ap, sym, ◌∙◌}
 use mathlib.Core.List.{[], ◌∷◌, map}
 use native.Mathlib.Omega.{arith}
-use Rattle.promise.specs.Told.{Told, given, refused}
+use Rattle.promise.specs.Told.{Told, given, refused, number}
 use Rattle.protocol_codes.specs.Numbers.{direction_number, code_number, status_number, reset_number, storage_number, storage_indexes}
-use Rattle.protocol_codes.specs.Reading.{by_number, known, direction_of, code_of, status_of, reset_of, storage_of, direction_read_told, code_read_told, status_read_told, reset_read_told}
+use Rattle.rule_number.specs.Number.{number_of}
+use Rattle.protocol_codes.specs.Reading.{unknown_direction_number, unknown_code_number, unknown_status_number, unknown_reset_number, by_number, known, direction_of, code_of, status_of, reset_of, storage_of, direction_read_told, code_read_told, status_read_told, reset_read_told}
 use Rattle.protocol_codes.specs.declared.Direction.{Direction}
 use Rattle.protocol_codes.specs.declared.Direction.TheVariants.{In, Out}
 use Rattle.protocol_codes.specs.declared.CommandCode.{CommandCode}
@@ -121,3 +122,24 @@ reset_of_lem (Err unknown) = refl
 
 pub reset_unique : (byte : ℕ) (r s : (Result ResetOpcode UnknownReset)) → reset_read_told r ≡ reset_of byte → reset_read_told s ≡ reset_of byte → r ≡ s
 reset_unique byte r s p q = sym (reset_of_lem r) ∙ ap (answer_of Ok (λ n. Err (record { 0 = n }))) (p ∙ sym q) ∙ reset_of_lem s
+
+-- the number of what is read is the number of what it tells
+pub direction_read_number : (r : Result Direction UnknownDirection) → number (direction_read_told r) ≡ number_of unknown_direction_number r
+unfolding number direction_read_told
+direction_read_number (Ok value) = refl
+direction_read_number (Err unknown) = refl
+
+pub code_read_number : (r : Result CommandCode UnknownCode) → number (code_read_told r) ≡ number_of unknown_code_number r
+unfolding number code_read_told
+code_read_number (Ok value) = refl
+code_read_number (Err unknown) = refl
+
+pub status_read_number : (r : Result Status UnknownStatus) → number (status_read_told r) ≡ number_of unknown_status_number r
+unfolding number status_read_told
+status_read_number (Ok value) = refl
+status_read_number (Err unknown) = refl
+
+pub reset_read_number : (r : Result ResetOpcode UnknownReset) → number (reset_read_told r) ≡ number_of unknown_reset_number r
+unfolding number reset_read_told
+reset_read_number (Ok value) = refl
+reset_read_number (Err unknown) = refl

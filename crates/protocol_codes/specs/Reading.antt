@@ -28,33 +28,45 @@ known refusal number values byte = by_number given (refused refusal (byte ∷ []
 unfoldable pub direction_of : ℕ → Told Direction
 direction_of byte = known 3 direction_number directions byte
 
+abbrev pub unknown_direction_number : UnknownDirection → ℕ
+unknown_direction_number unknown = 3
+
 unfoldable pub direction_read_told : Result Direction UnknownDirection → Told Direction
 direction_read_told (Ok value) = given value
-direction_read_told (Err unknown) = refused 3 (unknown.0 ∷ [])
+direction_read_told (Err unknown) = refused (unknown_direction_number unknown) (unknown.0 ∷ [])
 
 -- 4: a code that is not listed
 unfoldable pub code_of : ℕ → Told CommandCode
 code_of byte = known 4 code_number command_codes byte
 
+abbrev pub unknown_code_number : UnknownCode → ℕ
+unknown_code_number unknown = 4
+
 unfoldable pub code_read_told : Result CommandCode UnknownCode → Told CommandCode
 code_read_told (Ok value) = given value
-code_read_told (Err unknown) = refused 4 (unknown.0 ∷ [])
+code_read_told (Err unknown) = refused (unknown_code_number unknown) (unknown.0 ∷ [])
 
 -- 7: a status above 1
 unfoldable pub status_of : ℕ → Told Status
 status_of byte = known 7 status_number statuses byte
 
+abbrev pub unknown_status_number : UnknownStatus → ℕ
+unknown_status_number unknown = 7
+
 unfoldable pub status_read_told : Result Status UnknownStatus → Told Status
 status_read_told (Ok value) = given value
-status_read_told (Err unknown) = refused 7 (unknown.0 ∷ [])
+status_read_told (Err unknown) = refused (unknown_status_number unknown) (unknown.0 ∷ [])
 
 -- 52: a reset's opcode above 4
 unfoldable pub reset_of : ℕ → Told ResetOpcode
 reset_of byte = known 52 reset_number reset_opcodes byte
 
+abbrev pub unknown_reset_number : UnknownReset → ℕ
+unknown_reset_number unknown = 52
+
 unfoldable pub reset_read_told : Result ResetOpcode UnknownReset → Told ResetOpcode
 reset_read_told (Ok value) = given value
-reset_read_told (Err unknown) = refused 52 (unknown.0 ∷ [])
+reset_read_told (Err unknown) = refused (unknown_reset_number unknown) (unknown.0 ∷ [])
 
 -- 0 to 12 named, any other unknown by its number
 unfoldable pub storage_of : ℕ → StorageIndex

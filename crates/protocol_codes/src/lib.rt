@@ -5,7 +5,7 @@
 
 ghost use Rattle.std.specs.Prelude.{◌≡◌};
 ghost use Rattle.protocol_codes.specs.Numbers.{code_number, direction_number, status_number, reset_number, storage_number};
-ghost use Rattle.protocol_codes.specs.Reading.{code_of, code_read_told, direction_of, direction_read_told, status_of, status_read_told, reset_of, reset_read_told, storage_of};
+ghost use Rattle.protocol_codes.specs.Reading.{code_of, code_read_told, direction_of, direction_read_told, status_of, status_read_told, reset_of, reset_read_told, storage_of, unknown_direction_number, unknown_code_number, unknown_status_number, unknown_reset_number};
 
 use rule_number::RuleNumber;
 
@@ -21,7 +21,7 @@ pub enum Direction {
 pub struct UnknownDirection(pub u8);
 
 impl RuleNumber for UnknownDirection {
-    ghost rule_number = { λ unknown. 3 };
+    ghost rule_number = { unknown_direction_number };
 
     fn number(self) -> u8 {
         3
@@ -88,7 +88,7 @@ pub enum CommandCode {
 pub struct UnknownCode(pub u8);
 
 impl RuleNumber for UnknownCode {
-    ghost rule_number = { λ unknown. 4 };
+    ghost rule_number = { unknown_code_number };
 
     fn number(self) -> u8 {
         4
@@ -155,7 +155,7 @@ pub enum Status {
 pub struct UnknownStatus(pub u8);
 
 impl RuleNumber for UnknownStatus {
-    ghost rule_number = { λ unknown. 7 };
+    ghost rule_number = { unknown_status_number };
 
     fn number(self) -> u8 {
         7
@@ -200,7 +200,7 @@ pub enum ResetOpcode {
 pub struct UnknownReset(pub u8);
 
 impl RuleNumber for UnknownReset {
-    ghost rule_number = { λ unknown. 52 };
+    ghost rule_number = { unknown_reset_number };
 
     fn number(self) -> u8 {
         52

@@ -3,7 +3,7 @@
 #![tactic(auto)]
 
 ghost use Rattle.std.specs.Prelude.{◌≡◌, ℕ};
-ghost use Rattle.rule_number.specs.Number.{number_of};
+ghost use Rattle.rule_number.specs.Number.{number_of, output_too_short_number, out_of_steps_number};
 
 // What has a number in the rules.
 pub trait RuleNumber {
@@ -30,7 +30,7 @@ impl<T: Drop, E: RuleNumber> RuleNumber for Result<T, E> {
 pub struct OutputTooShort;
 
 impl RuleNumber for OutputTooShort {
-    ghost rule_number = { λ refusal. 20 };
+    ghost rule_number = { output_too_short_number };
 
     fn number(self) -> u8 {
         20
@@ -42,7 +42,7 @@ impl RuleNumber for OutputTooShort {
 pub struct OutOfSteps;
 
 impl RuleNumber for OutOfSteps {
-    ghost rule_number = { λ refusal. 28 };
+    ghost rule_number = { out_of_steps_number };
 
     fn number(self) -> u8 {
         28
