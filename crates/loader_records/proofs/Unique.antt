@@ -22,7 +22,7 @@ error_of n values =
     (pick (eqb n 73) (EntryPastEnd (get_or values 0 0) (get_or values 1 0)) (DataPastEnd (get_or values 0 0) (get_or values 1 0)))))
 
 pub error_of_lem : (e : RkBootError) (tag : List ℕ) → error_of (boot_error_number e) (boot_error_values e tag) ≡ e
-unfolding boot_error_number boot_error_values
+unfolding boot_error_values
 error_of_lem (TooShort n) tag = refl
 error_of_lem UnknownTag tag = refl
 error_of_lem (SizeBelowEntry list entry) tag = refl

@@ -21,17 +21,15 @@ use Rattle.std.specs.declared.result.Result.TheVariants.{Ok, Err}
 
 -- `RkBootError::number` with one number for all
 pub one_number : (n : ℕ) → n ≡ boot_error_number UnknownTag → n ≡ boot_error_number (DataPastEnd 0 0) → ⊥
-unfolding boot_error_number
 one_number n e f = omega arith
 
 -- `RkBootError::number` with 73 and 74 exchanged
 pub past_end_exchanged : 73 ≡ boot_error_number (DataPastEnd 0 0) → ⊥
-unfolding boot_error_number
 past_end_exchanged e = omega arith
 
 -- `number` of an answer that tells 0 for a refusal
 pub refusal_told_as_0 : 0 ≡ boot_answer_number (Err UnknownTag) → ⊥
-unfolding boot_error_number boot_told number
+unfolding boot_told number
 refusal_told_as_0 e = omega arith
 
 -- `number` of an answer that tells a refusal where a record was read
@@ -51,7 +49,7 @@ year_high_first r e met = let differ : ◌≡◌ {A = ℕ} 258 513 = sym e ∙ a
 
 -- `RkTime::from_bytes` that wants a byte more
 pub seven_refused : (r : RkTime) → ReadMeets (Err (TooShort 7)) r no_tag no_time (read_time (counting 7 1)) → ⊥
-unfolding or_refuse boot_told boot_error_number boot_error_values number
+unfolding or_refuse boot_told boot_error_values number
 seven_refused r met = let differ : ◌≡◌ {A = ℕ} 70 0 = ap number met.tells in omega arith
 
 -- `RkBootHeaderEntry::from_bytes` with count and size in each other's place
@@ -61,7 +59,7 @@ count_and_size_exchanged r e met = let differ : ◌≡◌ {A = ℕ} 6 1 = sym e 
 
 -- `RkBootHeaderEntry::from_bytes` that refuses a slice longer than the record
 pub longer_refused : (r : RkBootHeaderEntry) → ReadMeets (Err (TooShort 7)) r no_tag no_list (read_list (counting 7 1)) → ⊥
-unfolding or_refuse boot_told boot_error_number boot_error_values number
+unfolding or_refuse boot_told boot_error_values number
 longer_refused r met = let differ : ◌≡◌ {A = ℕ} 70 0 = ap number met.tells in omega arith
 
 -- `RkBootEntry::none` that has its own size in it
@@ -102,7 +100,7 @@ chip_not_reversed r e met =
 
 -- `RkBootHeader::from_bytes` that knows `BOOT` alone
 pub ldr_refused : (r : RkBootHeader) → ReadMeets (Err UnknownTag) r ldr no_header (read_header (tagged ldr)) → ⊥
-unfolding or_refuse is_tag same boot_told boot_error_number boot_error_values number
+unfolding or_refuse is_tag same boot_told boot_error_values number
 ldr_refused r met = let differ : ◌≡◌ {A = ℕ} 71 0 = ap number met.tells in omega arith
 
 -- `RkBootHeader::from_bytes` that takes every tag

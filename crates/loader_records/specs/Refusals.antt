@@ -7,7 +7,7 @@ use Rattle.loader_records.specs.declared.answer.RkBootError.TheVariants.{TooShor
 use Rattle.std.specs.declared.result.Result.TheVariants.{Ok, Err}
 
 -- 70 slice shorter than the record, 71 tag, 72 a list's size field, 73 an entry past the file's end, 74 data past it
-unfoldable pub boot_error_number : RkBootError → ℕ
+abbrev pub boot_error_number : RkBootError → ℕ
 boot_error_number (TooShort n) = 70
 boot_error_number UnknownTag = 71
 boot_error_number (SizeBelowEntry list entry) = 72

@@ -19,7 +19,6 @@ pub enum RkBootError {
 impl RuleNumber for RkBootError {
     ghost rule_number = { boot_error_number };
 
-    #[tactic(auto, unfolding(crate::specs::Refusals::boot_error_number))]
     fn number(self) -> u8 {
         match self {
             RkBootError::TooShort(_) => 70,

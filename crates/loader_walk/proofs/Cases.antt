@@ -16,7 +16,7 @@ use Rattle.loader_records.specs.declared.list.RkBootHeaderEntry.{RkBootHeaderEnt
 use Rattle.loader_records.specs.declared.entry.RkBootEntry.{RkBootEntry}
 use Rattle.loader_records.specs.declared.header.RkBootHeader.{RkBootHeader}
 use Rattle.loader_records.specs.Records.{read_header, read_entry, entry_of, no_entry, no_header}
-use Rattle.loader_records.specs.Refusals.{boot_told, boot_error_number, boot_error_values, boot_error_told, no_tag, tag_in, value_in, ReadMeets}
+use Rattle.loader_records.specs.Refusals.{boot_told, boot_error_values, boot_error_told, no_tag, tag_in, value_in, ReadMeets}
 use Rattle.loader_walk.specs.declared.walk.Walk.{Walk}
 use Rattle.loader_walk.specs.declared.walk.WalkStep.{WalkStep}
 use Rattle.loader_walk.specs.Entries.{Found, lookup, rest_of, start_of, entry_at}
@@ -78,16 +78,16 @@ module _ (w : Walk) (file : List ℕ) where
 -- a look at one entry
 module _ (file : List ℕ) (list i : ℕ) (l : RkBootHeaderEntry) where
   pub looked_72 : l.size < 57 → looked_up_told list i (Err (SizeBelowEntry list i)) ≡ lookup file list l i
-  unfolding lookup or_refuse boot_error_number boot_error_values
+  unfolding lookup or_refuse boot_error_values
   looked_72 small = rw (lt-ltb l.size 57 small) refl
 
   pub looked_73 : 57 ≤ l.size → length file < start_of l i + 57 → looked_up_told list i (Err (EntryPastEnd list i)) ≡ lookup file list l i
-  unfolding lookup or_refuse boot_error_number boot_error_values
+  unfolding lookup or_refuse boot_error_values
   looked_73 wide past = rw (le-ltb l.size 57 wide, lt-ltb (length file) (start_of l i + 57) past) refl
 
   module _ (wide : 57 ≤ l.size) (inside : start_of l i + 57 ≤ length file) (e : RkBootEntry) (says : e ≡ entry_at file l i) where
     pub looked_74 : length file < e.data_offset + e.data_size → looked_up_told list i (Err (DataPastEnd list i)) ≡ lookup file list l i
-    unfolding lookup or_refuse boot_error_number boot_error_values
+    unfolding lookup or_refuse boot_error_values
     looked_74 past =
         rw (le-ltb l.size 57 wide, le-ltb (length file) (start_of l i + 57) inside, ← says, lt-ltb (length file) (e.data_offset + e.data_size) past) refl
 
@@ -98,7 +98,7 @@ module _ (file : List ℕ) (list i : ℕ) (l : RkBootHeaderEntry) where
 
 -- no error of an entry has a tag to tell
 no_tag_told : (error : RkBootError) → no_tag ≡ tag_in {A = Next} (boot_error_told error no_tag)
-unfolding boot_error_number boot_error_values signature_in
+unfolding boot_error_values signature_in
 no_tag_told (TooShort n) = refl
 no_tag_told UnknownTag = refl
 no_tag_told (SizeBelowEntry list entry) = refl

@@ -14,7 +14,6 @@ use Rattle.loader_records.specs.declared.list.RkBootHeaderEntry.{RkBootHeaderEnt
 use Rattle.loader_records.specs.declared.entry.RkBootEntry.{RkBootEntry}
 use Rattle.loader_records.specs.declared.header.RkBootHeader.{RkBootHeader}
 use Rattle.loader_records.specs.Records.{time_of, list_of, units_from, entry_of, header_of, is_tag}
-use Rattle.loader_records.specs.Refusals.{boot_error_number}
 use Rattle.loader_walk.specs.declared.walk.Walk.{Walk}
 use Rattle.loader_walk.specs.declared.walk.EntryPlace.{EntryPlace}
 use Rattle.loader_walk.specs.declared.walk.WalkStep.{WalkStep}
@@ -43,14 +42,14 @@ entries_57_apart r e met = let differ : ◌≡◌ {A = ℕ} 9 57 = ap (λ (x : R
 
 -- `step` that tells 72 for an empty list
 pub empty_list_looked_at : (r : WalkStep) → r.answer ≡ Err (SizeBelowEntry 0 0) → WalkMeets r new_walk (next_of new_walk (file_of empty empty empty [])) → ⊥
-unfolding next_of and_then or_refuse is_tag same header_of time_of list_of from_low first_of rest_of lookups walk_told boot_error_number number
+unfolding next_of and_then or_refuse is_tag same header_of time_of list_of from_low first_of rest_of lookups walk_told number
 empty_list_looked_at r e met =
     let differ : ◌≡◌ {A = ℕ} 72 0 = ap number (sym (ap (λ (a : Result (Option EntryPlace) RkBootError). walk_told a r.entry r.unknown_tag) e) ∙ met.tells) in omega arith
 
 -- `step` that tells 74 where 73 comes first: all but the last byte of an entry are there, and its data is not
 pub data_before_entry : (r : WalkStep) → r.answer ≡ Err (DataPastEnd 0 0)
     → WalkMeets r new_walk (next_of new_walk (file_of (list_bytes 1 102 57) empty empty (take 56 (entry_bytes (small 255) (small 255))))) → ⊥
-unfolding next_of and_then or_refuse is_tag same header_of time_of list_of from_low first_of rest_of lookups lookup entry_of units_from walk_told boot_error_number number
+unfolding next_of and_then or_refuse is_tag same header_of time_of list_of from_low first_of rest_of lookups lookup entry_of units_from walk_told number
 data_before_entry r e met =
     let differ : ◌≡◌ {A = ℕ} 74 73 = ap number (sym (ap (λ (a : Result (Option EntryPlace) RkBootError). walk_told a r.entry r.unknown_tag) e) ∙ met.tells) in omega arith
 
@@ -79,7 +78,7 @@ brim_refused r error e met =
 -- `step` that tests the three size fields before any entry: the first list's entry passes the file's end, and the second list's size field is 56
 pub sizes_tested_first : (r : WalkStep) → r.answer ≡ Err (SizeBelowEntry 1 0)
     → WalkMeets r new_walk (next_of new_walk (file_of (list_bytes 1 102 57) (list_bytes 1 102 56) empty [])) → ⊥
-unfolding next_of and_then or_refuse is_tag same header_of time_of list_of from_low first_of rest_of lookups lookup walk_told boot_error_number number
+unfolding next_of and_then or_refuse is_tag same header_of time_of list_of from_low first_of rest_of lookups lookup walk_told number
 sizes_tested_first r e met =
     let differ : ◌≡◌ {A = ℕ} 72 73 = ap number (sym (ap (λ (a : Result (Option EntryPlace) RkBootError). walk_told a r.entry r.unknown_tag) e) ∙ met.tells) in omega arith
 
@@ -93,7 +92,7 @@ list_7_taken_for_the_third r error e met =
 -- `step` that tells 73 where 72 comes first: the list's size field is 56, and its entry passes the file's end
 pub entry_before_size : (r : WalkStep) → r.answer ≡ Err (EntryPastEnd 0 0)
     → WalkMeets r new_walk (next_of new_walk (file_of (list_bytes 1 102 56) empty empty [])) → ⊥
-unfolding next_of and_then or_refuse is_tag same header_of time_of list_of from_low first_of rest_of lookups lookup walk_told boot_error_number number
+unfolding next_of and_then or_refuse is_tag same header_of time_of list_of from_low first_of rest_of lookups lookup walk_told number
 entry_before_size r e met =
     let differ : ◌≡◌ {A = ℕ} 73 72 = ap number (sym (ap (λ (a : Result (Option EntryPlace) RkBootError). walk_told a r.entry r.unknown_tag) e) ∙ met.tells) in omega arith
 
@@ -166,16 +165,16 @@ one_byte_late e = let differ : ◌≡◌ {A = ℕ} 3 2 = ap (λ (l : List ℕ). 
 
 -- `number` of a step's answer: a refusal told as 0, and one number for all
 pub walk_refusal_told_as_0 : 0 ≡ walk_number (Err UnknownTag) → ⊥
-unfolding walk_told boot_error_number number
+unfolding walk_told number
 walk_refusal_told_as_0 e = omega arith
 
 pub one_number_for_steps : (n : ℕ) → n ≡ walk_number (Ok None) → n ≡ walk_number (Err UnknownTag) → ⊥
-unfolding walk_told boot_error_number number
+unfolding walk_told number
 one_number_for_steps n e f = omega arith
 
 -- `number` of an examination's answer: a refusal told as 0, and a whole file told as refused
 pub examine_refusal_told_as_0 : 0 ≡ examine_number (Err (EntryPastEnd 0 0)) → ⊥
-unfolding examine_told boot_error_number number
+unfolding examine_told number
 examine_refusal_told_as_0 e = omega arith
 
 pub whole_told_as_refusal : (counts : EntryCounts) → 72 ≡ examine_number (Ok counts) → ⊥
