@@ -11,7 +11,7 @@ use Rattle.loader_records.specs.Refusals.{value_in}
 use Rattle.loader_walk.specs.Entries.{start_of, entry_at}
 use Rattle.loader_walk.proofs.Cases.{looked_72, looked_73, looked_74, looked_found, entry_read, rest_whole}
 use Rattle.loader_walk.proofs.walk.look_up.Goals as goal
-use Rattle.loader_walk.proofs.walk.look_up.Goals.{After-struct_known-3-1}
+use Rattle.loader_walk.proofs.walk.look_up.Goals.{After-from_bytes}
 
 -- behind both tests of the entry's own place: it is wide enough and in the file, and what was read is what stands there
 pub record There (file : List ℕ) (l : RkBootHeaderEntry) (i : ℕ) (e : RkBootEntry) : Type 0 where
@@ -19,7 +19,7 @@ pub record There (file : List ℕ) (l : RkBootHeaderEntry) (i : ℕ) (e : RkBoot
   pub inside : start_of l i + 57 ≤ length file
   pub says : e ≡ entry_at file l i
 
-there : (c : After-struct_known-3-1) → There c.args.file.now c.args.list c.args.at.entry c.from_bytes.result.entry
+there : (c : After-from_bytes) → There c.args.file.now c.args.list c.args.at.entry c.from_bytes.result.entry
 there c =
     let a = c.args in
     let file = a.file.now in
@@ -53,11 +53,11 @@ returns-then-file-start c =
 pub returns-then-file-entry : goal.returns-then-file-entry
 returns-then-file-entry c =
     let a = c.args in
-    let t = there (goal.at.returns-then-file-entry c).After-struct_known-3-1 in
+    let t = there (goal.at.returns-then-file-entry c).After-from_bytes in
     looked_74 a.file.now a.at.list a.at.entry a.list t.wide t.inside c.from_bytes.result.entry t.says c.if-file-entry.true
 
 pub returns : goal.returns
 returns c =
     let a = c.args in
-    let t = there (goal.at.returns c).After-struct_known-3-1 in
+    let t = there (goal.at.returns c).After-from_bytes in
     looked_found a.file.now a.at.list a.at.entry a.list t.wide t.inside c.from_bytes.result.entry t.says c.if-file-entry.false
