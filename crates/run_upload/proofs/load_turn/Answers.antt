@@ -9,7 +9,6 @@ use Rattle.promise.specs.Bytes.{front}
 use Rattle.promise.specs.Does.{said, sent}
 use Rattle.maskrom.specs.declared.Control.{Control}
 use Rattle.maskrom.specs.declared.WholeUpload.{WholeUpload}
-use Rattle.maskrom.specs.declared.UploadStep.{UploadStep}
 use Rattle.maskrom.specs.declared.UploadStep.TheVariants.{WriteControl}
 use Rattle.maskrom.specs.Answers.{writes, step_told}
 use Rattle.maskrom.specs.Whole.{whole_step}
@@ -23,14 +22,19 @@ use Rattle.run_upload.proofs.Sized.{whole_sized}
 use Rattle.run_upload.proofs.Cases.{turn_carries, turn_finishes, turn_refuses}
 use Rattle.promise.specs.Rules.{differs, too_short}
 use Rattle.run_upload.proofs.load_turn.Goals as goal
+use Rattle.std.specs.Prelude.{Result}
+use Rattle.maskrom.specs.declared.UploadStep.{UploadStep}
+use Rattle.maskrom.specs.declared.UploadError.{UploadError}
+use Rattle.std.specs.declared.result.Result.TheVariants.{Ok, Err}
+use Rattle.maskrom.specs.declared.UploadError.TheVariants as upload_error
 
 -- the block as it is lent to the step
 abbrev blank : List ℕ
 blank = replicate 4096 0
 
 -- the step asks for this transfer
-asks_it : (upload : WholeUpload) (image : List ℕ) (answer : UploadStep) (asked : Control) → step_told answer ≡ said (whole_step upload image 4096)
-    → answer ≡ WriteControl asked → said (whole_step upload image 4096) ≡ given (writes asked)
+asks_it : (upload : WholeUpload) (image : List ℕ) (answer : Result UploadStep UploadError) (asked : Control) → step_told answer ≡ said (whole_step upload image 4096)
+    → answer ≡ Ok (WriteControl asked) → said (whole_step upload image 4096) ≡ given (writes asked)
 unfolding step_told
 asks_it upload image answer asked tells e = sym tells ∙ ap step_told e
 
