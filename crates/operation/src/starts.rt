@@ -9,7 +9,7 @@ use crate::steps::UsbOperation;
 use operation_finish::Kind;
 use protocol::CommandBlock;
 use protocol_codes::{ResetOpcode, StorageIndex};
-use protocol_reply::size::{SectorError, sector_count};
+use protocol_reply::size::{SectorCount, SectorError, sector_count};
 
 // How many sectors the data has, or 23 or 24 with an operation of length 0.
 #[derive(Clone, Copy)]
