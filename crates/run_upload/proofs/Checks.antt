@@ -21,10 +21,22 @@ use Rattle.run_upload.specs.declared.LoadStopError.TheVariants.{Device, OutputTo
 use Rattle.run_upload.specs.declared.LoadError.TheVariants.{Stopped}
 use Rattle.run_upload.specs.declared.LoadRun.{LoadRun}
 use Rattle.run_upload.specs.Load.{LoadState, load_turn, load_rules, unstarted, load_run}
-use Rattle.run_upload.specs.Answers.{load_stop_told, answer_end, RunMeets}
+use Rattle.run_upload.specs.Answers.{stop_error_number, load_stop_told, answer_end, RunMeets}
 use Rattle.run_upload.specs.Code.{run_by}
 use Rattle.std.specs.Prelude.{Result}
 use Rattle.std.specs.declared.result.Result.TheVariants.{Ok, Err}
+
+-- number and values of what stops a run
+unfoldable pub stop_values : LoadStopError → List ℕ
+stop_values (Device error) = error_values error no_signature
+stop_values OutputTooShort = []
+stop_values ImageDiffers = []
+
+pub told_by : (stop : LoadStopError) → load_stop_told (Err stop) ≡ refused (stop_error_number stop) (stop_values stop)
+unfolding load_stop_told stop_values
+told_by (Device error) = refl
+told_by OutputTooShort = refl
+told_by ImageDiffers = refl
 
 -- a run that stops before its first step
 pub stopped : (stop : LoadStopError) (s : LoadState) (n : ℕ) (values : List ℕ) → load_stop_told (Err stop) ≡ refused n values
@@ -87,14 +99,14 @@ module _ (image : List ℕ) (flash budget : ℕ) (s : LoadState) where
     unrefused = by_none (unstarted s) run s flash (length image) sectors k h f
 
   -- what the checks tell decides the run
-  pub run_refused : (n : ℕ) (values : List ℕ) → unless (load_rules s flash (length image)) (given tt) ≡ refused n values
+  pub run_refused : (n : ℕ) (values : List ℕ) → unless {A = Unit} (load_rules s flash (length image)) (given tt) ≡ refused n values
       → load_run image flash budget s ≡ unstarted s n values
   unfolding load_run
   run_refused n values e =
       ap (λ (rules : List Rule). or_refuse (unstarted s) rules run) (sym (append-nil (load_rules s flash (length image))))
       ∙ unmet_first (unstarted s) (load_rules s flash (length image)) [] tt run n values e
 
-  pub run_begins : unless (load_rules s flash (length image)) (given tt) ≡ given tt → load_run image flash budget s ≡ run
+  pub run_begins : unless {A = Unit} (load_rules s flash (length image)) (given tt) ≡ given tt → load_run image flash budget s ≡ run
   unfolding load_run or_refuse
   run_begins e =
       ap (λ (rules : List Rule). or_refuse (unstarted s) rules run) (sym (append-nil (load_rules s flash (length image))))

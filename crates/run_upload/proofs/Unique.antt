@@ -21,6 +21,7 @@ use Rattle.run_upload.specs.declared.LoadError.TheVariants.{Stopped, OutOfSteps}
 use Rattle.run_upload.specs.declared.LoadTurned.{LoadTurned}
 use Rattle.run_upload.specs.declared.LoadRun.{LoadRun}
 use Rattle.run_upload.specs.Load.{LoadState, load_state}
+use Rattle.run_upload.specs.Code.{ended}
 use Rattle.run_upload.specs.Answers.{load_stop_told, turn_told, answer_end, TurnMeets, RunMeets}
 use Rattle.std.specs.Prelude.{Result}
 use Rattle.std.specs.declared.result.Result.TheVariants.{Ok, Err}
@@ -76,16 +77,12 @@ unfolding state_for turn_told
 state_for_lem (Continue on) s = refl
 state_for_lem (Break x) s = refl
 
-unfoldable ended : Result Unit LoadStopError → Result Unit LoadError
-ended (Ok done) = Ok tt
-ended (Err e) = Err (Stopped e)
-
 unfoldable answer_for : End Unit → Result Unit LoadError
 answer_for (tells told) = ended (stop_for told)
 answer_for out_of_steps = Err OutOfSteps
 
 answer_for_lem : (a : Result Unit LoadError) → answer_for (answer_end a) ≡ a
-unfolding ended stop_for answer_for answer_end
+unfolding stop_for answer_for answer_end
 answer_for_lem (Ok done) = refl
 answer_for_lem (Err (Stopped x)) = ap ended (stop_for_lem (Err x))
 answer_for_lem (Err OutOfSteps) = refl

@@ -10,6 +10,7 @@ use Rattle.mock.specs.declared.device.MockStep.{MockStep}
 use Rattle.run_upload.specs.declared.LoadStopError.{LoadStopError}
 use Rattle.run_upload.specs.declared.LoadStopError.TheVariants.{Device}
 use Rattle.run_upload.specs.declared.LoadError.{LoadError}
+use Rattle.run_upload.specs.declared.LoadError.TheVariants.{Stopped}
 use Rattle.run_upload.specs.declared.LoadTurned.{LoadTurned}
 use Rattle.run_upload.specs.declared.LoadRun.{LoadRun}
 
@@ -19,6 +20,11 @@ turned_by turn upload device = record { turn = turn; upload = upload; device = d
 
 abbrev pub run_by : Result Unit LoadError → ℕ → WholeUpload → MockState → LoadRun
 run_by answer steps upload device = record { answer = answer; steps = steps; upload = upload; device = device }
+
+-- a turn's stop as the answer of the run
+abbrev pub ended : Result Unit LoadStopError → Result Unit LoadError
+ended (Ok done) = Ok tt
+ended (Err error) = Err (Stopped error)
 
 unfoldable pub after_result : Result Unit MockTransportError → ControlFlow (Result Unit LoadStopError) Unit
 after_result (Ok done) = Continue tt
