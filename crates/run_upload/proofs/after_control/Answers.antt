@@ -1,5 +1,5 @@
 -- Each arm is the definition at the device's answer.
-use mathlib.Core.Path.{◌≡◌, ap, sym, ◌∙◌}
+use mathlib.Core.Path.{ap, sym, ◌∙◌}
 use Rattle.std.specs.Prelude.{Result}
 use Rattle.mock_base.specs.declared.error.MockTransportError.{MockTransportError}
 use Rattle.std.specs.declared.result.Result.TheVariants.{Err}

@@ -1,8 +1,7 @@
 -- The tests are the run's rules in their order.
-use Rattle.std.proofs.Common.{◌≡◌, ℕ, [], length, ap, sym, ◌∙◌, rules, Ok, Err, Result}
-use Rattle.promise.specs.Told.{Told, given, refused}
+use Rattle.std.proofs.Common.{◌≡◌, length, ap, sym, ◌∙◌, rules, Err}
+use Rattle.promise.specs.Told.{given, refused}
 use Rattle.mock_base.specs.Told.{error_values}
-use Rattle.run_upload.specs.declared.LoadStopError.{LoadStopError}
 use Rattle.run_upload.specs.declared.LoadStopError.TheVariants.{Device}
 use Rattle.run_upload.specs.Load.{load_state}
 use Rattle.run_upload.specs.Answers.{load_stop_told}

@@ -1,5 +1,6 @@
 -- What the step tells decides the turn; the bytes that it asks for are those that it put at the front of the block.
 use Prim.Native.Nat.{ℕ}
+use Rattle.std.proofs.Common.{rules}
 use mathlib.Core.Path.{◌≡◌, refl, ap, ap₂, sym, ◌∙◌}
 use mathlib.Core.List.{List, []}
 use native.Mathlib.Omega.{arith}
@@ -9,7 +10,7 @@ use Rattle.promise.specs.Bytes.{front}
 use Rattle.promise.specs.Does.{said, sent}
 use Rattle.maskrom.specs.declared.Control.{Control}
 use Rattle.maskrom.specs.declared.WholeUpload.{WholeUpload}
-use Rattle.maskrom.specs.declared.UploadStep.TheVariants.{WriteControl}
+use Rattle.maskrom.specs.declared.UploadStep.TheVariants.{WriteControl, Finished}
 use Rattle.maskrom.specs.Answers.{writes, step_told, upload_error_number}
 use Rattle.maskrom.specs.Whole.{whole_step}
 use Rattle.mock.specs.Device.{write_control}
@@ -44,7 +45,8 @@ carry-requires c =
     let a = c.args in
     let st = c.step-stepped in
     let k = c.in-Ok-WriteControl.c in
-    let asks = asks_it a.upload a.image.now st.result.step k st.ensures.tells (c.in-Ok-WriteControl.is ∙ ap Ok c.in-Ok-WriteControl.field-0-is) in
+    let asked : st.result.step ≡ Ok (WriteControl k) = search rules in
+    let asks = asks_it a.upload a.image.now st.result.step k st.ensures.tells asked in
     omega (arith, whole_sized a.upload a.image.now 4096 k asks, whole_writes a.upload a.image.now 4096, st.auto.out, length-replicate {A = ℕ} 4096 0)
 
 pub returns-in-Ok-WriteControl : goal.returns-in-Ok-WriteControl
@@ -54,7 +56,8 @@ returns-in-Ok-WriteControl c =
     let st = c.step-stepped in
     let step = whole_step a.upload image 4096 in
     let k = c.in-Ok-WriteControl.c in
-    let asks = asks_it a.upload image st.result.step k st.ensures.tells (c.in-Ok-WriteControl.is ∙ ap Ok c.in-Ok-WriteControl.field-0-is) in
+    let asked : st.result.step ≡ Ok (WriteControl k) = search rules in
+    let asks = asks_it a.upload image st.result.step k st.ensures.tells asked in
     let s = load_state a.upload a.device a.store.now in
     let block = st.new.out in
     let bytes : take k.size block ≡ sent step =
@@ -73,7 +76,8 @@ returns-in-Ok-Finished c =
     let a = c.args in
     let st = c.step-stepped in
     let s = load_state a.upload a.device a.store.now in
-    let told = sym st.ensures.tells ∙ ap step_told (c.in-Ok-Finished.is ∙ ap Ok c.in-Ok-Finished.field-0-is) in
+    let done : st.result.step ≡ Ok Finished = search rules in
+    let told = sym st.ensures.tells ∙ ap step_told done in
     record {
       tells = ap (λ (r : LoadTurned). turn_told r.turn (load_state r.upload r.device a.store.now)) c.turned.ensures
           ∙ ap (λ (u : WholeUpload). ends (given tt) (load_state u a.device a.store.now)) st.ensures.next

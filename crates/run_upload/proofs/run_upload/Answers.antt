@@ -1,11 +1,10 @@
 -- What the checks tell decides the run, and past them stand its turns.
-use Rattle.std.proofs.Common.{◌≡◌, ℕ, length, ap, sym, ◌∙◌, Err, Result}
-use Rattle.promise.specs.Told.{Told, given, refused}
+use Rattle.std.proofs.Common.{◌≡◌, length, refl, ap, sym, ◌∙◌, Err}
+use Rattle.promise.specs.Told.{given, refused}
 use Rattle.promise.specs.Rules.{unless}
 use Rattle.promise.specs.Run.{runs}
 use Rattle.run_upload.specs.declared.LoadError.{LoadError}
 use Rattle.run_upload.specs.declared.LoadError.TheVariants.{Stopped}
-use Rattle.run_upload.specs.declared.LoadStopError.{LoadStopError}
 use Rattle.run_upload.specs.Load.{load_state, load_turn, load_rules, unstarted, load_run}
 use Rattle.run_upload.specs.Answers.{stop_error_number, load_stop_told}
 use Rattle.run_upload.specs.Code.{run_by}
@@ -26,4 +25,10 @@ returns-in-Err c =
     (run_refused a.image.now (length a.flash.now) a.budget s n values told) (stopped e s n values (told_by e))
 
 pub returns : goal.returns
-returns c = ?
+unfolding load_stop_told
+returns c =
+    let a = c.args in
+    let s = load_state a.upload a.device a.store.now in
+    let r = c.run_on in
+    as_run r.result r.result r.new.store (load_run a.image.now (length a.flash.now) a.budget s) (runs (load_turn a.image.now) a.budget s) refl
+    (run_begins a.image.now (length a.flash.now) a.budget s (sym c.checked.ensures ∙ ap load_stop_told c.in_default.is)) r.ensures
