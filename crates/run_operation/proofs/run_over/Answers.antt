@@ -9,13 +9,14 @@ use Rattle.mock_base.specs.Told.{error_number, error_values}
 use Rattle.mock_base.specs.declared.error.MockTransportError.TheVariants as error
 use Rattle.operation.specs.Record.{transfer_length}
 use Rattle.promise.specs.Run.{runs}
-use Rattle.run_turn.specs.declared.Stop.TheVariants as stop
+use Rattle.run_turn.specs.declared.StopError.TheVariants as stop
 use Rattle.run_turn.specs.Turn.{usb_state, is_write, lent_to, usb_turn}
 use Rattle.run_operation.specs.Run.{sector_data, unstarted, usb_run}
 use Rattle.run_operation.specs.Code.{unstarted_by}
 use Rattle.run_operation.proofs.Checks.{device_unstarted, data_unstarted, flash_refused, store_refused, data_refused, unrefused, as_run, whole_size, refused_size, length_picked}
 use Rattle.promise.specs.Rules.{differs}
 use Rattle.run_operation.proofs.run_over.Goals as goal
+use Rattle.std.specs.declared.result.Result.TheVariants.{Ok, Err}
 
 pub returns-in-Refused : goal.returns-in-Refused
 returns-in-Refused c =
