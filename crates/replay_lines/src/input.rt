@@ -5,14 +5,14 @@ use std::io::Read;
 // The reader, and the block that was read last, of which what stands from `start` to `end` is not cut up yet.
 #[derive(Drop)]
 pub struct Input<'a, R> {
-    from: &'a mut R,
+    from: R,
     block: &'a mut [u8],
     start: usize,
     end: usize,
 }
 
 impl<'a, R: Read> Input<'a, R> {
-    pub fn new(from: &'a mut R, block: &'a mut [u8]) -> Input<'a, R> {
+    pub fn new(from: R, block: &'a mut [u8]) -> Input<'a, R> {
         Input {
             from,
             block,
