@@ -2,6 +2,9 @@
 use crate::buffer::first_mut;
 use crate::tokens::Tokens;
 
+// the most of a LEN, but of an image's
+pub const LEN: usize = 65536;
+
 // A form that is not spelled out, but grows from a number.
 #[derive(Clone, Copy, PartialEq, Eq)]
 pub enum Form {
@@ -70,6 +73,7 @@ impl Tokens<'_> {
     pub fn spelled(&mut self, into: &mut [u8]) -> usize {
         let mut places = into.iter_mut();
         let mut n = 0usize;
+        // a proved loop has to end, and no line has so many pairs
         for _ in 0..usize::MAX {
             let Some(byte) = self.pair() else {
                 break;
@@ -80,6 +84,14 @@ impl Tokens<'_> {
             }
         }
         n
+    }
+
+    // OUTLEN FILL: the first OUTLEN bytes of a lent room are FILL. How many they are.
+    pub fn room(&mut self, room: &mut [u8]) -> Option<usize> {
+        let len = self.at_most(LEN)?;
+        let fill = self.u8()?;
+        first_mut(len, room).fill(fill);
+        Some(len)
     }
 
     // DATA of at most `most` bytes, to the front of a lent buffer: how many they are.
