@@ -4,7 +4,7 @@ use protocol::CommandBlockParseError;
 use protocol_status::failure::UsbOperationError;
 
 pub fn command_error(error: CommandBlockParseError, signature: [u8; 4]) -> Told {
-    let number = u64::from(error.number());
+    let number = error.number();
     match error {
         CommandBlockParseError::InvalidLength(n) => Told::of(number, &[n as u64]),
         CommandBlockParseError::InvalidSignature => Told::of_bytes(number, signature),
@@ -14,7 +14,7 @@ pub fn command_error(error: CommandBlockParseError, signature: [u8; 4]) -> Told 
 }
 
 pub fn operation_error(error: UsbOperationError, signature: [u8; 4]) -> Told {
-    let number = u64::from(error.number());
+    let number = error.number();
     match error {
         UsbOperationError::InvalidStatusSignature => Told::of_bytes(number, signature),
         UsbOperationError::InvalidStatusStatus(byte) => Told::of(number, &[u64::from(byte)]),

@@ -4,14 +4,14 @@ use std::fmt;
 // A number, and the first `count` of the values.
 #[derive(Clone, Copy)]
 pub struct Told {
-    pub number: u64,
+    pub number: u8,
     count: usize,
     values: [u64; 9],
 }
 
 impl Told {
     // With these values, of which there are at most nine.
-    pub fn of(number: u64, values: &[u64]) -> Told {
+    pub fn of(number: u8, values: &[u64]) -> Told {
         let mut told = Told {
             number,
             count: 0,
@@ -25,12 +25,12 @@ impl Told {
     }
 
     // With these four bytes as its values.
-    pub fn of_bytes(number: u64, bytes: [u8; 4]) -> Told {
+    pub fn of_bytes(number: u8, bytes: [u8; 4]) -> Told {
         Told::of(number, &bytes.map(u64::from))
     }
 
     // The same values behind another.
-    pub fn behind(self, number: u64, first: u64) -> Told {
+    pub fn behind(self, number: u8, first: u64) -> Told {
         let [a, b, c, d, e, f, g, h, _] = self.values;
         Told {
             number,

@@ -35,7 +35,7 @@ pub(crate) fn read_command(bytes: &[u8]) -> Told {
 }
 
 fn status_error(error: CommandStatusParseError, signature: [u8; 4]) -> Told {
-    let number = u64::from(error.number());
+    let number = error.number();
     match error {
         CommandStatusParseError::InvalidLength(n) => Told::of(number, &[n as u64]),
         CommandStatusParseError::InvalidSignature => Told::of_bytes(number, signature),
@@ -82,7 +82,7 @@ pub(crate) fn map_status(bytes: &[u8]) -> Told {
 fn written(answer: Written) -> Told {
     match answer {
         Written::Bytes(n) => Told::of(0, &[n as u64]),
-        Written::TooShort => Told::of(u64::from(answer.number()), &[]),
+        Written::TooShort => Told::of(answer.number(), &[]),
     }
 }
 

@@ -5,6 +5,9 @@ use crate::tokens::Tokens;
 // the most of a LEN, but of an image's
 pub const LEN: usize = 65536;
 
+// the most of the current upload's image
+pub const IMAGE: usize = 100000;
+
 // A form that is not spelled out, but grows from a number.
 #[derive(Clone, Copy, PartialEq, Eq)]
 pub enum Form {
@@ -69,7 +72,7 @@ impl Tokens<'_> {
         Some(high << 4 | low)
     }
 
-    // The bytes that are spelled out here, to the front of a lent buffer: how many they are. What it has no room for is left out.
+    // The bytes that are spelled out here, to the front of a lent buffer: how many they are, with those that it has no room for.
     pub fn spelled(&mut self, into: &mut [u8]) -> usize {
         let mut places = into.iter_mut();
         let mut n = 0usize;
@@ -80,8 +83,8 @@ impl Tokens<'_> {
             };
             if let Some(place) = places.next() {
                 *place = byte;
-                n = n.wrapping_add(1);
             }
+            n = n.wrapping_add(1);
         }
         n
     }
@@ -94,7 +97,7 @@ impl Tokens<'_> {
         Some(len)
     }
 
-    // DATA of at most `most` bytes, to the front of a lent buffer: how many they are.
+    // DATA of at most `most` bytes, or spelled out, to the front of a lent buffer: how many they are, with those that it has no room for.
     pub fn data(&mut self, most: usize, into: &mut [u8]) -> Option<usize> {
         self.gap()?;
         let letter = self.byte()?;
@@ -110,5 +113,15 @@ impl Tokens<'_> {
         };
         form.grow(first_mut(len, into), given);
         Some(len)
+    }
+
+    // DATA of exactly so many bytes.
+    pub fn array<const N: usize>(&mut self) -> Option<[u8; N]> {
+        let mut bytes = [0; N];
+        if self.data(LEN, &mut bytes)? == N {
+            Some(bytes)
+        } else {
+            None
+        }
     }
 }

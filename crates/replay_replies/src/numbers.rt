@@ -6,7 +6,7 @@ use replay_answers::told::Told;
 
 // The number of the value that was read, or that of the refusal with the number that was given.
 fn told(number: u8, value: u8) -> Told {
-    Told::of(u64::from(number), &[u64::from(value)])
+    Told::of(number, &[u64::from(value)])
 }
 
 pub fn direction(n: u8) -> Told {

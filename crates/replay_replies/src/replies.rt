@@ -50,7 +50,7 @@ pub fn media(bytes: &[u8]) -> Option<Told> {
     let answer = storage_index(*bytes.as_array::<4>()?);
     match answer {
         StorageAnswer::Index(index) => Some(storage(index)),
-        StorageAnswer::ReplyParseFailure => Some(Told::of(u64::from(answer.number()), &[])),
+        StorageAnswer::ReplyParseFailure => Some(Told::of(answer.number(), &[])),
     }
 }
 
@@ -58,6 +58,6 @@ pub fn sectors(length: usize) -> Told {
     let answer = sector_count(length);
     match answer {
         SectorAnswer::Count(count) => Told::of(0, &[u64::from(count.0)]),
-        _ => Told::of(u64::from(answer.number()), &[]),
+        _ => Told::of(answer.number(), &[]),
     }
 }
