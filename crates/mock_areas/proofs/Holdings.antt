@@ -23,13 +23,14 @@ use Rattle.mock_areas.specs.Contents.{bytes_at, contents, Sound, so_far, gains, 
 use Rattle.mock_areas.specs.declared.Area.{Area}
 use Rattle.mock_areas.specs.declared.Areas.{Areas}
 use Rattle.mock_areas.specs.declared.Place.{Place}
-use Rattle.mock_areas.specs.declared.Wanted.TheVariants.{Free, Number}
-use Rattle.mock_areas.specs.declared.AreaFound.TheVariants.{NotHeld, Held}
+use Rattle.std.specs.Prelude.{Option as Optional}
+use Rattle.mock_areas.specs.declared.Stretch.{Stretch}
 use Rattle.mock_areas.proofs.Search.{found_passes, first_set, first_kept}
 use Rattle.mock_areas.proofs.Room.{slot_end, slot_inside}
+use Rattle.std.specs.declared.option.Option.TheVariants.{Some, None}
 
 -- a slot that is held by one number is not held by another, and a free slot by none
-held_by_one : (area : Area) (a b : ℕ) → (b ≡ a → ⊥) → passes (Number a) area ≡ true → passes (Number b) area ≡ false
+held_by_one : (area : Area) (a b : ℕ) → (b ≡ a → ⊥) → passes (Some a) area ≡ true → passes (Some b) area ≡ false
 unfolding passes
 held_by_one area a b other h =
     on_test area.held
@@ -37,11 +38,11 @@ held_by_one area a b other h =
     rw t (ne_eqb area.number b (λ f. other (sym f ∙ e))))
     (λ t. rw t refl)
 
-free_by_none : (area : Area) (b : ℕ) → passes Free area ≡ true → passes (Number b) area ≡ false
+free_by_none : (area : Area) (b : ℕ) → passes None area ≡ true → passes (Some b) area ≡ false
 unfolding passes
 free_by_none area b h = rw (not-true area.held h) refl
 
-is_held_lem : (area : Area) (a : ℕ) → passes (Number a) area ≡ true → area.held ≡ true
+is_held_lem : (area : Area) (a : ℕ) → passes (Some a) area ≡ true → area.held ≡ true
 unfolding passes
 is_held_lem area a h = on_test area.held (λ t. t) (λ t. let z : false ≡ true = rw t at h in t ∙ z)
 
@@ -55,30 +56,30 @@ module _ (number : ℕ) (slots : List Area) (eight : length slots ≡ slot_count
       (λ e h. let f = ltb-false (held_at number slots) slot_count e in omega arith)
 
   no_other : (b : ℕ) → (b ≡ number → ⊥) → (place number slots).slot < slot_count
-      → passes (Number b) (get_or slots (place number slots).slot free_slot) ≡ false
+      → passes (Some b) (get_or slots (place number slots).slot free_slot) ≡ false
   unfolding place held_at
   no_other b other =
-      by_test (λ (q : Place). q.slot < slot_count → passes (Number b) (get_or slots q.slot free_slot) ≡ false) (is_held number slots)
+      by_test (λ (q : Place). q.slot < slot_count → passes (Some b) (get_or slots q.slot free_slot) ≡ false) (is_held number slots)
       (λ e h. held_by_one (get_or slots (held_at number slots) free_slot) number b other
-      (found_passes (passes (Number number)) free_slot slots (omega arith)))
-      (λ e h. free_by_none (get_or slots (first_at (passes Free) slots) free_slot) b
-      (found_passes (passes Free) free_slot slots (omega arith)))
+      (found_passes (passes (Some number)) free_slot slots (omega arith)))
+      (λ e h. free_by_none (get_or slots (first_at (passes None) slots) free_slot) b
+      (found_passes (passes None) free_slot slots (omega arith)))
 
 -- a held number's slot is held, and by no other number
 module _ (areas : Areas) (store : List ℕ) (sound : Sound areas store) (b : ℕ) (h : is_held b areas.slots ≡ true) where
-  held_passes : passes (Number b) (get_or areas.slots (held_at b areas.slots) free_slot) ≡ true
+  held_passes : passes (Some b) (get_or areas.slots (held_at b areas.slots) free_slot) ≡ true
   unfolding held_at
   held_passes =
       let l = ltb-true (held_at b areas.slots) slot_count h in
       let k = sound.eight in
-      found_passes (passes (Number b)) free_slot areas.slots (omega arith)
+      found_passes (passes (Some b)) free_slot areas.slots (omega arith)
 
   held_slot : (get_or areas.slots (held_at b areas.slots) free_slot).held ≡ true
   held_slot = is_held_lem (get_or areas.slots (held_at b areas.slots) free_slot) b held_passes
 
-  elsewhere : (i : ℕ) → passes (Number b) (get_or areas.slots i free_slot) ≡ false → held_at b areas.slots ≡ i → ⊥
+  elsewhere : (i : ℕ) → passes (Some b) (get_or areas.slots i free_slot) ≡ false → held_at b areas.slots ≡ i → ⊥
   elsewhere i f e =
-      let t : passes (Number b) (get_or areas.slots i free_slot) ≡ true = rw e at held_passes in
+      let t : passes (Some b) (get_or areas.slots i free_slot) ≡ true = rw e at held_passes in
       let z : false ≡ true = sym f ∙ t in
       let n : ◌≡◌ {A = ℕ} 0 1 = ap (λ (x : Bool). pick x 1 0) z in
       omega arith
@@ -92,7 +93,7 @@ apart_slots areas store sound a b other ha hb =
 -- bytes put into slot i behind `used` others, the slot not being another's and none before it being the number's
 module _ (areas : Areas) (number i used : ℕ) (bytes store : List ℕ) (sound : Sound areas store) (slot : i < slot_count)
     (room : used + length bytes ≤ slot_size (length store)) (first : i ≤ held_at number areas.slots)
-    (own : (b : ℕ) → (b ≡ number → ⊥) → passes (Number b) (get_or areas.slots i free_slot) ≡ false) where
+    (own : (b : ℕ) → (b ≡ number → ⊥) → passes (Some b) (get_or areas.slots i free_slot) ≡ false) where
   inside : i * slot_size (length store) + used + length bytes ≤ length store
   inside = omega (arith, slot_inside i (length store) slot)
 
@@ -104,7 +105,7 @@ module _ (areas : Areas) (number i used : ℕ) (bytes store : List ℕ) (sound :
   unfolding held_at held_by passes
   own_place =
       let h = sound.eight in
-      first_set (passes (Number number)) free_slot areas.slots i (record { held = true; number = number; used = used + length bytes }) (omega arith)
+      first_set (passes (Some number)) free_slot areas.slots i (record { held = true; number = number; used = used + length bytes }) (omega arith)
       first (eq-eqb number number refl)
 
   own_used : used_at i (held_by areas i number (used + length bytes)).slots ≡ used + length bytes
@@ -156,7 +157,7 @@ module _ (areas : Areas) (number i used : ℕ) (bytes store : List ℕ) (sound :
     other_place : held_at b (held_by areas i number (used + length bytes)).slots ≡ held_at b areas.slots
     unfolding held_at held_by passes
     other_place =
-        first_kept (passes (Number b)) free_slot areas.slots i (record { held = true; number = number; used = used + length bytes }) (own b other)
+        first_kept (passes (Some b)) free_slot areas.slots i (record { held = true; number = number; used = used + length bytes }) (own b other)
         (ne_eqb number b (λ e. other (sym e)))
 
     other_bytes : contents b (held_by areas i number (used + length bytes)) (over (i * slot_size (length store) + used) bytes store) ≡ contents b areas store
@@ -185,7 +186,7 @@ grows_at number bytes areas store sound met =
     let slot = leb-false slot_count p.slot met.0 in
     let room = ltb-false (slot_size (length store)) (p.used + length bytes) met.1.0 in
     let first = first_of_number number areas.slots sound.eight slot in
-    let own : (b : ℕ) → (b ≡ number → ⊥) → passes (Number b) (get_or areas.slots p.slot free_slot) ≡ false =
+    let own : (b : ℕ) → (b ≡ number → ⊥) → passes (Some b) (get_or areas.slots p.slot free_slot) ≡ false =
     λ b other. no_other number areas.slots sound.eight b other slot in
     record {
       long = long areas number p.slot p.used bytes store sound slot room first own;
@@ -257,18 +258,27 @@ record Stands (areas : Areas) (number n start used : ℕ) : Type 0 where
   starts : start ≡ held_at number areas.slots * slot_size n
   counts : used ≡ used_at (held_at number areas.slots) areas.slots
 
-stands : (areas : Areas) (number n start used : ℕ) → area_found areas number n ≡ Held start used → Stands areas number n start used
-unfolding area_found
+found_stretch : Optional Stretch → Stretch
+found_stretch None = record { start = 0; length = 0 }
+found_stretch (Some found) = found
+
+stands : (areas : Areas) (number n start used : ℕ) → area_found areas number n ≡ Some (record { start = start; length = used }) → Stands areas number n start used
+unfolding area_found found_stretch
 stands areas number n start used e =
     on_test (is_held number areas.slots)
-    (λ h. let f : Held (held_at number areas.slots * slot_size n) (used_at (held_at number areas.slots) areas.slots) ≡ Held start used = rw h at e in
-    record { held = h; starts = cc; counts = cc })
-    (λ h. let f : NotHeld ≡ Held start used = rw h at e in
+    (λ h. let here : Stretch = record { start = held_at number areas.slots * slot_size n; length = used_at (held_at number areas.slots) areas.slots } in
+    let there : Stretch = record { start = start; length = used } in
+    let f : Some here ≡ Some there = rw h at e in
+    let s : here ≡ there = ap found_stretch f in
+    record { held = h; starts = sym (ap (λ (x : Stretch). x.start) s); counts = sym (ap (λ (x : Stretch). x.length) s) })
+    (λ h. let there : Stretch = record { start = start; length = used } in
+    let none : Optional Stretch = None in
+    let f : none ≡ Some there = rw h at e in
     let z : ◌≡◌ {A = ℕ} 0 1 = cc in absurd (omega arith))
 
 -- two areas never overlap
 pub areas_apart : (a b : ℕ) (areas : Areas) (store : List ℕ) → Sound areas store → (b ≡ a → ⊥) → (s m t n : ℕ)
-    → area_found areas a (length store) ≡ Held s m → area_found areas b (length store) ≡ Held t n → (s + m ≤ t) ⊎ (t + n ≤ s)
+    → area_found areas a (length store) ≡ Some (record { start = s; length = m }) → area_found areas b (length store) ≡ Some (record { start = t; length = n }) → (s + m ≤ t) ⊎ (t + n ≤ s)
 areas_apart a b areas store sound other s m t n ea eb =
     let x = stands areas a (length store) s m ea in
     let y = stands areas b (length store) t n eb in

@@ -17,8 +17,8 @@ use Rattle.mock_areas.specs.declared.Area.{Area}
 use Rattle.mock_areas.specs.declared.Areas.{Areas}
 use Rattle.mock_areas.specs.declared.AreaStep.{AreaStep}
 use Rattle.mock_areas.specs.declared.Place.{Place}
-use Rattle.mock_areas.specs.declared.Wanted.TheVariants.{Free, Number}
 use Rattle.mock_areas.proofs.Search.{found_passes}
+use Rattle.std.specs.declared.option.Option.TheVariants.{Some, None}
 
 clash : {C : Type 0} → true ≡ false → C
 clash e = absurd (let z : ◌≡◌ {A = ℕ} 0 1 = cc in omega arith)
@@ -128,16 +128,16 @@ module _ (areas : Areas) (n : ℕ) (f : Filled areas n) (i number used : ℕ) (s
       }
 
 -- a slot that passes for a number is held, and by it; one that passes for free is not held
-by_number : (area : Area) (number : ℕ) → passes (Number number) area ≡ true → (area.held ≡ true) × (area.number ≡ number)
+by_number : (area : Area) (number : ℕ) → passes (Some number) area ≡ true → (area.held ≡ true) × (area.number ≡ number)
 unfolding passes
 by_number area number h =
     on_test area.held (λ t. (t, eqb-true area.number number (rw t at h))) (λ t. let z : false ≡ true = rw t at h in clash (sym z))
 
-holds_number : (area : Area) (number : ℕ) → area.held ≡ true → area.number ≡ number → passes (Number number) area ≡ true
+holds_number : (area : Area) (number : ℕ) → area.held ≡ true → area.number ≡ number → passes (Some number) area ≡ true
 unfolding passes
 holds_number area number h e = rw h (eq-eqb area.number number e)
 
-not_free : (area : Area) → passes Free area ≡ false → area.held ≡ true
+not_free : (area : Area) → passes None area ≡ false → area.held ≡ true
 unfolding passes
 not_free area h = not-false area.held h
 
@@ -158,9 +158,9 @@ module _ (areas : Areas) (n number : ℕ) (f : Filled areas n) where
       let l = f.eight in
       by_test (λ (p : Place). p.slot < slot_count → j < p.slot → (slot_at areas j).held ≡ true) (is_held number areas.slots)
       (λ e h less.
-      let found = found_passes (passes (Number number)) free_slot areas.slots (omega arith) in
+      let found = found_passes (passes (Some number)) free_slot areas.slots (omega arith) in
       f.lowest j (held_at number areas.slots) less (by_number (slot_at areas (held_at number areas.slots)) number found).0)
-      (λ e h less. not_free (slot_at areas j) (before_fails (passes Free) free_slot areas.slots j less))
+      (λ e h less. not_free (slot_at areas j) (before_fails (passes None) free_slot areas.slots j less))
 
   own_place : (j : ℕ) → (place number areas.slots).slot < slot_count → (slot_at areas j).held ≡ true → (slot_at areas j).number ≡ number
       → j ≡ (place number areas.slots).slot
@@ -169,13 +169,13 @@ module _ (areas : Areas) (n number : ℕ) (f : Filled areas n) where
       let l = f.eight in
       by_test (λ (p : Place). p.slot < slot_count → (slot_at areas j).held ≡ true → (slot_at areas j).number ≡ number → j ≡ p.slot) (is_held number areas.slots)
       (λ e h held same.
-      let found = found_passes (passes (Number number)) free_slot areas.slots (omega arith) in
+      let found = found_passes (passes (Some number)) free_slot areas.slots (omega arith) in
       let here = by_number (slot_at areas (held_at number areas.slots)) number found in
       f.once j (held_at number areas.slots) held here.0 (same ∙ sym here.1))
       (λ e h held same.
       let none : slot_count ≤ held_at number areas.slots = ltb-false (held_at number areas.slots) slot_count e in
       let less : j < held_at number areas.slots = omega (arith, none, one_of_eight j held) in
-      clash (sym (holds_number (slot_at areas j) number held same) ∙ before_fails (passes (Number number)) free_slot areas.slots j less))
+      clash (sym (holds_number (slot_at areas j) number held same) ∙ before_fails (passes (Some number)) free_slot areas.slots j less))
 
 pub append_filled : (areas : Areas) (number : ℕ) (bytes store : List ℕ) → Filled areas (length store)
     → Filled (append_step areas number bytes store).next (length store)

@@ -12,10 +12,12 @@ use Rattle.mock_areas.specs.Slots.{free_slot, fresh_areas, passes, first_at, hel
 use Rattle.mock_areas.specs.Append.{held_by, append_rules, appended_at, append_step, area_told, AppendMeets}
 use Rattle.mock_areas.specs.declared.Area.{Area}
 use Rattle.mock_areas.specs.declared.Areas.{Areas}
-use Rattle.mock_areas.specs.declared.AreaFound.{AreaFound}
-use Rattle.mock_areas.specs.declared.AreaFound.TheVariants.{NotHeld, Held}
-use Rattle.mock_areas.specs.declared.AreaAnswer.TheVariants.{Written, NoSlot, SlotFull}
+use Rattle.std.specs.Prelude.{Option}
+use Rattle.std.specs.declared.option.Option.TheVariants.{Some, None}
+use Rattle.mock_areas.specs.declared.Stretch.{Stretch}
 use Rattle.mock_areas.specs.declared.AreaStep.{AreaStep}
+use Rattle.std.specs.declared.result.Result.TheVariants.{Ok, Err}
+use Rattle.mock_areas.specs.declared.AreaError.TheVariants as area_error
 
 -- the first slot, and whether it is held, as a number
 abbrev first_slot : Areas → Area
@@ -25,13 +27,13 @@ abbrev held_number : Bool → ℕ
 held_number true = 1
 held_number false = 0
 
--- `AreaAnswer::number`: one number for both refusals
-pub one_number_for_both : (n : ℕ) → n ≡ number (area_told NoSlot) → n ≡ number (area_told SlotFull) → ⊥
+-- `RuleNumber::number` of an append's answer: one number for both refusals
+pub one_number_for_both : (n : ℕ) → n ≡ number (area_told (Err area_error.NoSlot)) → n ≡ number (area_told (Err area_error.SlotFull)) → ⊥
 unfolding number area_told
 one_number_for_both n first second = omega arith
 
 -- written bytes told as a refusal
-pub written_told_as_refused : (n : ℕ) → suc n ≡ number (area_told Written) → ⊥
+pub written_told_as_refused : (n : ℕ) → suc n ≡ number (area_told (Ok tt)) → ⊥
 unfolding number area_told
 written_told_as_refused n e = omega arith
 
@@ -50,21 +52,21 @@ used_at_first areas n used e = let z : suc n ≡ 0 = sym used ∙ ap (λ (a : Ar
 abbrev pub one_held : Areas
 one_held = held_by fresh_areas 1 5 3
 
-abbrev start_of : AreaFound → ℕ
-start_of NotHeld = 0
-start_of (Held start n) = start
+abbrev start_of : Option Stretch → ℕ
+start_of None = 0
+start_of (Some found) = found.start
 
-abbrev length_of : AreaFound → ℕ
-length_of NotHeld = 0
-length_of (Held start n) = n
+abbrev length_of : Option Stretch → ℕ
+length_of None = 0
+length_of (Some found) = found.length
 
 -- `Areas::find`: slots of another size; of a store of 72 bytes the second slot starts at 9, and not at 8
-pub another_size_for_the_start : (n : ℕ) → Held 8 n ≡ area_found one_held 5 72 → ⊥
+pub another_size_for_the_start : (n : ℕ) → Some (record { start = 8; length = n }) ≡ area_found one_held 5 72 → ⊥
 unfolding area_found held_by fresh_areas held_at first_at passes
 another_size_for_the_start n e = let z : ◌≡◌ {A = ℕ} 8 9 = ap start_of e in omega arith
 
 -- the slot's place given for the length
-pub length_is_the_place : (start : ℕ) → Held start 1 ≡ area_found one_held 5 72 → ⊥
+pub length_is_the_place : (start : ℕ) → Some (record { start = start; length = 1 }) ≡ area_found one_held 5 72 → ⊥
 unfolding area_found held_by fresh_areas held_at first_at passes
 length_is_the_place start e = let z : ◌≡◌ {A = ℕ} 1 3 = ap length_of e in omega arith
 

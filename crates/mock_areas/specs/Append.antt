@@ -7,9 +7,11 @@ use Rattle.mock_areas.specs.Slots.{slot_count, slot_size, slot_at, place}
 use Rattle.mock_areas.specs.declared.Areas.{Areas}
 use Rattle.mock_areas.specs.declared.Place.{Place}
 use Rattle.mock_areas.specs.declared.AreaStep.{AreaStep}
-use Rattle.mock_areas.specs.declared.AreaAnswer.{AreaAnswer}
-use Rattle.mock_areas.specs.declared.AreaAnswer.TheVariants.{Written, NoSlot, SlotFull}
 use Rattle.promise.specs.Does.{Comes}
+use Rattle.std.specs.Prelude.{Result}
+use Rattle.mock_areas.specs.declared.AreaError.{AreaError}
+use Rattle.std.specs.declared.result.Result.TheVariants.{Ok, Err}
+use Rattle.mock_areas.specs.declared.AreaError.TheVariants as area_error
 
 -- what is told, and the slots and the store afterwards
 abbrev pub Appending : Type 0
@@ -41,10 +43,15 @@ append_step areas number bytes store =
     or_refuse (refused_append areas store) (append_rules (place number areas.slots) (length bytes) (length store))
     (appended_at areas (place number areas.slots) number bytes store)
 
-unfoldable pub area_told : AreaAnswer → Told Unit
-area_told Written = given tt
-area_told NoSlot = refused 58 []
-area_told SlotFull = refused 59 []
+-- 58 and 59
+abbrev pub area_error_number : AreaError → ℕ
+area_error_number area_error.NoSlot = 58
+area_error_number area_error.SlotFull = 59
+
+unfoldable pub area_told : Result Unit AreaError → Told Unit
+area_told (Ok done) = given tt
+area_told (Err area_error.NoSlot) = refused 58 []
+area_told (Err area_error.SlotFull) = refused 59 []
 
 -- an append that answers r and leaves the store `after`
 pub record AppendMeets (r : AreaStep) (after : List ℕ) (a : Appending) : Type 0 where

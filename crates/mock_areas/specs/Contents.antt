@@ -7,13 +7,14 @@ use Rattle.promise.specs.Bytes.{field}
 use Rattle.mock_areas.specs.Slots.{slot_count, slot_size, free_slot, used_at, area_found}
 use Rattle.mock_areas.specs.Append.{Appending, append_step}
 use Rattle.mock_areas.specs.declared.Areas.{Areas}
-use Rattle.mock_areas.specs.declared.AreaFound.{AreaFound}
-use Rattle.mock_areas.specs.declared.AreaFound.TheVariants.{NotHeld, Held}
+use Rattle.mock_areas.specs.declared.Stretch.{Stretch}
+use Rattle.std.specs.Prelude.{Option as Optional}
+use Rattle.std.specs.declared.option.Option.TheVariants.{Some, None}
 
 -- `none` is not held, `some []` is held and empty
-unfoldable pub bytes_at : AreaFound → List ℕ → Option (List ℕ)
-bytes_at NotHeld store = none
-bytes_at (Held start n) store = some (field start n store)
+unfoldable pub bytes_at : Optional Stretch → List ℕ → Option (List ℕ)
+bytes_at None store = none
+bytes_at (Some found) store = some (field found.start found.length store)
 
 unfoldable pub contents : ℕ → Areas → List ℕ → Option (List ℕ)
 contents number areas store = bytes_at (area_found areas number (length store)) store

@@ -4,10 +4,9 @@ use Rattle.promise.specs.Rules.{pick}
 use Rattle.mock_areas.specs.declared.Area.{Area}
 use Rattle.mock_areas.specs.declared.Areas.{Areas}
 use Rattle.mock_areas.specs.declared.Place.{Place}
-use Rattle.mock_areas.specs.declared.Wanted.{Wanted}
-use Rattle.mock_areas.specs.declared.Wanted.TheVariants.{Free, Number}
-use Rattle.mock_areas.specs.declared.AreaFound.{AreaFound}
-use Rattle.mock_areas.specs.declared.AreaFound.TheVariants.{NotHeld, Held}
+use Rattle.mock_areas.specs.declared.Stretch.{Stretch}
+use Rattle.std.specs.Prelude.{Option}
+use Rattle.std.specs.declared.option.Option.TheVariants.{Some, None}
 
 -- a store of n bytes has 8 slots of floor(n/8)
 abbrev pub slot_count : ℕ
@@ -40,9 +39,9 @@ pub record LowestFree (k : ℕ) (areas : Areas) : Type 0 where
   pub below : (i : ℕ) → i < k → (slot_at areas i).held ≡ true
 
 -- whether a slot is free, or held by this number
-unfoldable pub passes : Wanted → Area → Bool
-passes Free area = not area.held
-passes (Number n) area = pick area.held (eqb area.number n) false
+unfoldable pub passes : Option ℕ → Area → Bool
+passes None area = not area.held
+passes (Some n) area = pick area.held (eqb area.number n) false
 
 -- the lowest place that passes a test; the list's length where none does
 unfoldable pub first_at : {A : Type 0} → (A → Bool) → List A → ℕ
@@ -51,7 +50,7 @@ first_at test (a ∷ rest) = pick (test a) zero (suc (first_at test rest))
 
 -- the slot that holds the number, and how many bytes it has
 unfoldable pub held_at : ℕ → List Area → ℕ
-held_at number slots = first_at (passes (Number number)) slots
+held_at number slots = first_at (passes (Some number)) slots
 
 abbrev pub is_held : ℕ → List Area → Bool
 is_held number slots = ltb (held_at number slots) slot_count
@@ -64,11 +63,18 @@ unfoldable pub place : ℕ → List Area → Place
 place number slots =
     pick (is_held number slots)
     (record { slot = held_at number slots; used = used_at (held_at number slots) slots })
-    (record { slot = first_at (passes Free) slots; used = 0 })
+    (record { slot = first_at (passes None) slots; used = 0 })
+
+-- a place that is one of the slots, and a place in such a one; none where it is the slots' number
+unfoldable pub among_slots : ℕ → Option ℕ
+among_slots at = pick (ltb at slot_count) (Some at) None
+
+unfoldable pub place_among : Place → Option Place
+place_among p = pick (ltb p.slot slot_count) (Some p) None
 
 -- where an area's bytes stand in a store of n bytes
-unfoldable pub area_found : Areas → ℕ → ℕ → AreaFound
+unfoldable pub area_found : Areas → ℕ → ℕ → Option Stretch
 area_found areas number n =
     pick (is_held number areas.slots)
-    (Held (held_at number areas.slots * slot_size n) (used_at (held_at number areas.slots) areas.slots))
-    NotHeld
+    (Some (record { start = held_at number areas.slots * slot_size n; length = used_at (held_at number areas.slots) areas.slots }))
+    None
