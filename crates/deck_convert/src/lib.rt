@@ -4,7 +4,7 @@
 
 ghost use Rattle.std.specs.Prelude.{◌≡◌, ◌≤◌, length};
 ghost use Rattle.deck_convert.specs.Convert.{new_convert, as_upload, ConvertMeets};
-ghost use Rattle.deck_convert.specs.Code.{block_end, BlockMeets};
+ghost use Rattle.deck_convert.specs.Code.{BlockMeets};
 
 use deck_block::check::{block_check, put_check};
 use deck_block::{CardAnswer, read_card};
@@ -33,17 +33,6 @@ fn to_upload(tag: u32, block: &mut [u8])
     block[0] = UPLOAD;
     let check = block_check(tag, block);
     put_check(check, block);
-}
-
-// Where the block ends that starts here: the last may be short.
-fn block_end(from: usize, length: usize) -> usize
-    requires { from ≤ length }
-    ensures { result ≡ block_end from length }
-{
-    if length - from < BLOCK {
-        return length;
-    }
-    from + BLOCK
 }
 
 impl Convert {
@@ -85,11 +74,10 @@ impl Convert {
         ensures { ConvertMeets result chunk.new chunk.old self }
     {
         let mut convert = self;
-        let mut at = 0;
-        while at < chunk.len() {
-            let end = block_end(at, chunk.len());
+        // By place and not by `chunks_mut`, whose contract does not say what the slice holds behind it.
+        for at in (0..chunk.len()).step_by(BLOCK) {
+            let end = chunk.len().min(at + BLOCK);
             convert = convert.convert_block(&mut chunk[at..end]);
-            at = end;
         }
         convert
     }

@@ -6,7 +6,6 @@ ghost use Rattle.std.specs.Prelude.{◌≡◌, ◌+◌, ◌<◌, leb, length};
 ghost use Rattle.mock_areas.specs.Slots.{passes, first_at, place, among_slots, place_among, fresh_areas, area_found};
 ghost use Rattle.mock_areas.specs.Append.{held_by, AppendMeets, append_step, area_error_number};
 
-use lent_bytes;
 use rule_number::RuleNumber;
 
 const SLOTS: usize = 8;
@@ -157,7 +156,7 @@ impl Areas {
             };
         }
         let at = slot * size + used;
-        lent_bytes::copy(data, &mut store[at..]);
+        store[at..at + data.len()].copy_from_slice(data);
         AreaStep {
             answer: Ok(()),
             areas: self.hold(slot, number, used + data.len()),

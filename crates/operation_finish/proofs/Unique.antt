@@ -4,7 +4,8 @@ use mathlib.Core.Path.{◌≡◌, refl, ap, ap₂, sym, ◌∙◌}
 use mathlib.Core.List.{List}
 use lib.Dec.{eqb}
 use lib.ListN.{get_or}
-use Rattle.promise.specs.Told.{Told, given, refused}
+use Rattle.promise.specs.Told.{Told, given, refused, number}
+use Rattle.rule_number.specs.Number.{number_of}
 use Rattle.promise.specs.Rules.{pick}
 use Rattle.protocol_status.specs.Failure.{failure_number, failure_values}
 use Rattle.protocol_status.specs.declared.failure.UsbOperationError.{UsbOperationError}
@@ -57,3 +58,9 @@ finish_unique told r s p q =
     let answers : r.answer ≡ s.answer =
     sym (answer_of_lem r.answer r.beside) ∙ ap answer_of (p.tells ∙ sym q.tells) ∙ answer_of_lem s.answer s.beside in
     ap₂ (λ (a : Result UsbReply UsbOperationError) (b : Beside). record { answer = a; beside = b }) answers (p.beside ∙ sym q.beside)
+
+-- the number of a finish is the number of what it tells
+pub finish_number : (r : Result UsbReply UsbOperationError) (b : Beside) → number (finish_told r b) ≡ number_of failure_number r
+unfolding number finish_told
+finish_number (Ok reply) b = refl
+finish_number (Err error) b = refl

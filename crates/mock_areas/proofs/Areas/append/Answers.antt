@@ -1,10 +1,12 @@
 -- The place's slot lies inside the store and the new bytes inside the slot, so the copy is the one part that changes.
-use Prim.Native.Nat.{◌+◌, ◌-◌, ◌*◌, ◌<◌, ◌≤◌}
-use mathlib.Core.Path.{◌≡◌, refl, sym, ◌∙◌}
+use Prim.Native.Nat.{ℕ, ◌+◌, ◌-◌, ◌*◌, ◌<◌, ◌≤◌}
+use mathlib.Core.Path.{◌≡◌, refl, ap, sym, ◌∙◌}
+use mathlib.Core.List.{List}
 use native.Mathlib.Omega.{arith}
-use lib.ListN.{length, length-take, length-drop}
+use lib.ListN.{length}
 use borrow.Author.Tests.{leb-true, leb-false}
-use Rattle.promise.proofs.Copied.{copied}
+use Rattle.promise.specs.Over.{over}
+use Rattle.promise.proofs.Copied.{put_over}
 use Rattle.mock_areas.specs.Slots.{slot_count, slot_size, place}
 use Rattle.mock_areas.specs.Append.{area_told, appended_at}
 use Rattle.mock_areas.proofs.Room.{slot_inside}
@@ -61,14 +63,11 @@ overflow_mul-at c = let f = fits-store (goal.at.overflow_mul-at c).Else-not-has_
 pub overflow_add-at : goal.overflow_add-at
 overflow_add-at c = let f = fits-store (goal.at.overflow_add-at c).Else-not-has_room in omega arith
 
-pub slice_bounds-copy-count : goal.slice_bounds-copy-count
-slice_bounds-copy-count c = let f = fits-store (goal.at.slice_bounds-copy-count c).Else-not-has_room in omega arith
+pub overflow_add-at-2 : goal.overflow_add-at-2
+overflow_add-at-2 c = let f = fits-store (goal.at.overflow_add-at-2 c).Else-not-has_room in omega arith
 
-pub slice_bounds-copy-start : goal.slice_bounds-copy-start
-slice_bounds-copy-start c = let f = fits-store (goal.at.slice_bounds-copy-start c).Else-not-has_room in omega arith
-
-pub copy-requires : goal.copy-requires
-copy-requires c = let f = fits-store (goal.at.copy-requires c).Else-not-has_room in simp (length-take, length-drop) (omega arith)
+pub slice_bounds-copy_from_slice-end : goal.slice_bounds-copy_from_slice-end
+slice_bounds-copy_from_slice-end c = let f = fits-store (goal.at.slice_bounds-copy_from_slice-end c).Else-not-has_room in omega arith
 
 pub overflow_add-used : goal.overflow_add-used
 overflow_add-used c = let f = fits-store (goal.at.overflow_add-used c).Else-not-has_room in omega arith
@@ -81,14 +80,17 @@ unfolding area_told appended_at
 returns c =
     let a = c.args in
     let p = c.in-Some.place in
-    let n = length a.store.now in
-    let f = fits-store (goal.at.returns c).Else-not-has_room in
-    let at = placed (goal.at.returns c).Else-not-has_room in
-    rw (appended a.self a.number a.«data».now a.store.now p (sym at.0) at.1 (fits-slot (goal.at.returns c).Else-not-has_room))
+    let bytes = a.«data».now in
+    let at = p.slot * slot_size (length a.store.now) + p.used in
+    let fits = fits-slot (goal.at.returns c).Else-not-has_room in
+    let place = placed (goal.at.returns c).Else-not-has_room in
+    let k : at + length bytes - at ≡ length bytes = omega arith in
+    let last = c.copy_from_slice.ensures.after in
+    rw (appended a.self a.number bytes a.store.now p (sym place.0) place.1 fits)
     (record {
       tells = refl;
       next = c.hold.ensures;
       leaves =
-          copied (p.slot * slot_size n + p.used) (n - (p.slot * slot_size n + p.used)) a.«data».now a.store.now
-          c.copy.new.to f (omega arith) c.copy.ensures.after;
+          put_over at (at + length bytes - at) a.store.now c.copy_from_slice.new.self (ap length last ∙ sym k)
+          ∙ ap (λ (l : List ℕ). over at l a.store.now) last;
     })
