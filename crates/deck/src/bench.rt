@@ -60,8 +60,8 @@ impl Bench {
     pub fn deal(self, block: &[u8], flash: &mut [u8], store: &mut [u8]) -> DeckStep
         ensures { StepMeets result flash.new store.new self block.now flash.old store.old }
     {
-        let number = std::num::wrapping_add_u64(self.number, 1);
-        let tag = std::num::wrapping_add_u32(self.tag, 1);
+        let number = self.number.wrapping_add(1);
+        let tag = self.tag.wrapping_add(1);
         let held = self.device;
         let dealt = deal_block(tag, block, held, flash, store);
         let verdict = dealt.verdict;

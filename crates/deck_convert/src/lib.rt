@@ -53,7 +53,7 @@ impl Convert {
         ensures { BlockMeets result block.new block.old self }
     {
         let mut next = self;
-        next.tag = std::num::wrapping_add_u32(self.tag, 1);
+        next.tag = self.tag.wrapping_add(1);
         if block.len() < BLOCK {
             return next;
         }
@@ -61,11 +61,11 @@ impl Convert {
             return next;
         }
         let CardAnswer::WithdrawnKind = read_card(next.tag, block) else {
-            next.left = std::num::wrapping_add_u64(self.left, 1);
+            next.left = self.left.wrapping_add(1);
             return next;
         };
         to_upload(next.tag, block);
-        next.converted = std::num::wrapping_add_u64(self.converted, 1);
+        next.converted = self.converted.wrapping_add(1);
         next
     }
 

@@ -4,7 +4,8 @@ use mathlib.Core.Path.{◌≡◌, refl, ap, ap₂, sym, ◌∙◌}
 use mathlib.Core.List.{List}
 use lib.Dec.{eqb}
 use lib.ListN.{get_or}
-use Rattle.promise.specs.Told.{Told, given, refused}
+use Rattle.promise.specs.Told.{Told, given, refused, number}
+use Rattle.rule_number.specs.Number.{number_of}
 use Rattle.promise.specs.Rules.{pick}
 use Rattle.protocol_status.specs.Failure.{failure_number, failure_values}
 use Rattle.protocol_status.specs.declared.failure.UsbOperationError.{UsbOperationError}

@@ -2,8 +2,7 @@
 use Prim.Native.Nat.{ℕ}
 use mathlib.Core.Path.{◌≡◌}
 use native.Mathlib.Omega.{arith}
-use Rattle.std.specs.Prelude.{Result}
-use Rattle.std.specs.declared.result.Result.TheVariants.{Ok, Err}
+use Rattle.std.specs.declared.result.Result.TheVariants.{Err}
 use Rattle.rule_number.specs.Number.{number_of, output_too_short_number, out_of_steps_number}
 use Rattle.rule_number.specs.declared.OutputTooShort.{OutputTooShort}
 use Rattle.rule_number.specs.declared.OutOfSteps.{OutOfSteps}

@@ -6,7 +6,7 @@ use Rattle.operation_finish.specs.Reply.{Reply}
 use Rattle.operation_finish.specs.declared.Beside.{Beside}
 use Rattle.promise.specs.Run.{End, tells, out_of_steps, end_told, Ran}
 use Rattle.run_turn.specs.Turn.{UsbState, usb_state}
-use Rattle.run_turn.proofs.Answers.{stop_told}
+use Rattle.run_turn.specs.Answers.{stop_told}
 use Rattle.run_turn.proofs.Unique.{stop_for, stop_for_lem, stop_number}
 use Rattle.run_operation.specs.declared.UsbRun.{UsbRun}
 use Rattle.promise.specs.Told.{number}

@@ -6,25 +6,24 @@ use native.Mathlib.Omega.{arith}
 use lib.Dec.{ltb}
 use lib.ListN.{length, take, drop, replicate, length-replicate, replicate-append-replicate}
 use lib.Seq.{length-take-le, take_at}
-use Rattle.promise.specs.Told.{Told, given, refused, and_then}
+use Rattle.promise.specs.Told.{Told, given, refused}
 use Rattle.promise.specs.Rules.{rule}
 use Rattle.promise.specs.Bytes.{front}
 use Rattle.promise.proofs.Outcome.{either_way}
 use Rattle.protocol_bytes.specs.Signature.{signature_in}
-use Rattle.protocol_status.specs.Failure.{failure_number, failure_values}
+use Rattle.protocol_status.specs.Failure.{failure_number, failure_values, failure_told}
 use Rattle.protocol_status.specs.declared.failure.UsbOperationError.TheVariants as failure
 use Rattle.mock_base.specs.Told.{error_number, error_values, error_told, result_told, inner_signature, signature_beside, Answers}
 use Rattle.mock_base.specs.declared.error.MockTransportError.{MockTransportError}
 use Rattle.mock_base.specs.declared.error.MockTransportError.TheVariants as error
 use Rattle.mock_base.specs.declared.error.MockAnswer.{MockAnswer}
-use Rattle.operation_finish.specs.Reply.{Reply, blank, beside_of, finish_told}
-use Rattle.operation_finish.specs.declared.Beside.{Beside}
+use Rattle.operation_finish.specs.Reply.{Reply, blank, beside_of}
 use Rattle.operation.specs.declared.steps.Asked.{Asked}
 use Rattle.operation.specs.declared.steps.Asked.TheVariants as asked
 use Rattle.operation.specs.declared.steps.UsbOperation.{UsbOperation}
 use Rattle.operation.specs.declared.steps.UsbStep.TheVariants as step
 use Rattle.operation.specs.declared.steps.UsbStepped.{UsbStepped}
-use Rattle.operation.specs.Step.{Asks, finished_told, usb_step, step_told, beside_asks, beside_at, StepMeets}
+use Rattle.operation.specs.Step.{Asks, usb_step, step_told, beside_asks, beside_at, StepMeets}
 use Rattle.operation.specs.Give.{Give, keeps, nothing_asked, asks_for, owed, give_of}
 use Rattle.operation.specs.Give as give
 use Rattle.mock.specs.declared.device.MockState.{MockState}

@@ -171,11 +171,7 @@ fn step_over(operation: UsbOperation, source: &[u8], room: &[u8], out: &mut [u8]
 }
 
 // The end of a run, at a step that asks for no transfer.
-fn ended(
-    stop: Result<UsbReply, StopError>,
-    stepped: UsbStepped,
-    device: MockState,
-) -> UsbTurned
+fn ended(stop: Result<UsbReply, StopError>, stepped: UsbStepped, device: MockState) -> UsbTurned
     ensures { result ≡ ended_by stop stepped.beside stepped.next device }
 {
     UsbTurned {

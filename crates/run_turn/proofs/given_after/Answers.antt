@@ -20,7 +20,7 @@ pub returns-clause-value : goal.returns-clause-value
 returns-clause-value c =
     let a = c.args in
     c.give-given.ensures.next
-    ∙ ap (λ (x : Result Unit MockTransportError). where_done x (usb_give a.operation a.bytes.now (length a.room.now)).next a.operation) (sym c.in-Done.is)
+    ∙ ap (λ (x : Result Unit MockTransportError). where_done x (usb_give a.operation a.bytes.now (length a.room.now)).next a.operation) (sym c.in-Ok.is)
 
 pub returns-clause-room_unchanged : goal.returns-clause-room_unchanged
 returns-clause-room_unchanged c =

@@ -23,7 +23,6 @@ use Rattle.run_turn.specs.Answers.{TurnMeets, LentMeets}
 use Rattle.run_turn.proofs.Meets.{within, command_meets, data_meets, inband_meets, sectors_meets, status_meets, finish_meets, refusal_meets}
 use Rattle.run_turn.proofs.take_turn.Goals as goal
 use Rattle.std.specs.declared.result.Result.TheVariants.{Ok, Err}
-use Rattle.operation.specs.declared.steps.StepError.TheVariants as step_error
 
 -- what the step asked for is within what was lent
 module _ (s : UsbState) (stepped : UsbStepped) (out : List ℕ) (m : StepMeets stepped (replicate 31 0) out (usb_step s.operation (length s.«data») 31)) where
