@@ -1,6 +1,5 @@
 // A deck: one 512-byte block after the other, each dealt to the stand-in.
-ghost use Rattle.std.specs.Prelude.{◌≡◌, length, replicate};
-ghost use Rattle.mock_base.specs.Config.{default_byte};
+ghost use Rattle.std.specs.Prelude.{◌≡◌, length};
 ghost use Rattle.deck.specs.Bench.{StartMeets, StepMeets};
 
 use crate::dealing::deal_block;
@@ -35,17 +34,6 @@ pub struct DeckStep {
     pub bench: Bench,
 }
 
-// Every byte as in a flash that was never written.
-fn clear(flash: &mut [u8])
-    ensures { flash.new ≡ replicate (length flash.old) default_byte }
-{
-    let mut i = 0;
-    while i < flash.len() {
-        flash[i] = DEFAULT_BYTE;
-        i += 1;
-    }
-}
-
 impl Bench {
     // The Rust's default device, before the first block. A flash that is refused is left as it was.
     pub fn new(flash: &mut [u8], store: &[u8]) -> BenchStart
@@ -63,7 +51,8 @@ impl Bench {
         let MockResult::Done = result else {
             return BenchStart { answer, bench };
         };
-        clear(flash);
+        // Every byte as in a flash that was never written.
+        flash.fill(DEFAULT_BYTE);
         BenchStart { answer, bench }
     }
 
@@ -71,8 +60,8 @@ impl Bench {
     pub fn deal(self, block: &[u8], flash: &mut [u8], store: &mut [u8]) -> DeckStep
         ensures { StepMeets result flash.new store.new self block.now flash.old store.old }
     {
-        let number = std::num::wrapping_add_u64(self.number, 1);
-        let tag = std::num::wrapping_add_u32(self.tag, 1);
+        let number = self.number.wrapping_add(1);
+        let tag = self.tag.wrapping_add(1);
         let held = self.device;
         let dealt = deal_block(tag, block, held, flash, store);
         let verdict = dealt.verdict;

@@ -95,32 +95,20 @@ fn fields_of(block: &[u8]) -> Fields
 fn all_zero(bytes: &[u8]) -> bool
     ensures { result ≡ all_zero bytes.now }
 {
-    let mut i = 0;
-    while i < bytes.len() {
-        if bytes[i] != 0 {
-            return false;
-        }
-        i += 1;
-    }
-    true
+    bytes.iter().all(|&byte| byte == 0)
 }
 
 fn is_kind(kind: u8) -> bool
     ensures { result ≡ is_kind kind }
 {
-    if kind < 1 {
-        return false;
-    }
-    kind <= 12
+    (1..=12).contains(&kind)
 }
 
 fn too_large(f: Fields) -> bool
     ensures { result ≡ too_large f }
 {
-    let kind = f.kind;
-    match kind {
-        7 => 16 < f.half,
-        8 => 16 < f.half,
+    match f.kind {
+        7 | 8 => 16 < f.half,
         12 => 8192 < f.word,
         _ => false,
     }

@@ -1,5 +1,5 @@
 -- One block more of a chunk, the chunk so far, and its end.
-use Prim.Native.Nat.{ℕ, zero, suc, ◌+◌, ◌-◌, ◌*◌, ◌≤◌, ◌<◌}
+use Prim.Native.Nat.{ℕ, suc, ◌+◌, ◌-◌, ◌*◌, ◌≤◌, ◌<◌}
 use mathlib.Core.Path.{◌≡◌, refl, ap, ap₂, sym, subst, ◌∙◌}
 use mathlib.Core.Bool.{Bool, true, false}
 use mathlib.Core.List.{List, [], ◌∷◌, ◌++◌, append_assoc, append-nil}
@@ -26,12 +26,6 @@ use Rattle.deck_chunk.specs.declared.ChunkAnswer.TheVariants.{Dealt, TooShort}
 use Rattle.deck_chunk.specs.Chunk.{chunk_told, Chunk, chunk_dealt, deal_chunk, ChunkMeets}
 use Rattle.promise.specs.Told.{given}
 use Rattle.deck_chunk.specs.Code.{LinedMeets, NextMeets, DoneMeets}
-
--- a part as long as itself
-pub whole_part : (n : ℕ) (l : List ℕ) → take (length (take n l)) l ≡ take n l
-whole_part zero l = refl
-whole_part (suc n) [] = refl
-whole_part (suc n) (x ∷ l) = ap (λ (k : List ℕ). x ∷ k) (whole_part n l)
 
 -- a text that stands in a line's array
 module _ (r : Line) (text : List ℕ) (e : r ≡ line text) where

@@ -2,18 +2,17 @@
 
 #![tactic(auto)]
 
-ghost use Rattle.std.specs.Prelude.{◌≡◌, ◌+◌, ◌*◌, ◌≤◌, length, take};
+ghost use Rattle.std.specs.Prelude.{◌≡◌, ◌+◌, ◌*◌, ◌^◌, ◌<◌, ◌≤◌, length, take};
 ghost use Rattle.promise.specs.Told.{number};
 ghost use Rattle.promise.specs.Over.{over};
 ghost use Rattle.deck_line.specs.Line.{longest_line};
-ghost use Rattle.deck_block.specs.Blocks.{begun, block_at};
+ghost use Rattle.deck_block.specs.Blocks.{begun};
 ghost use Rattle.deck_chunk.specs.Deck.{table, new_deck, deal_next, deal_all};
 ghost use Rattle.deck_chunk.specs.Chunk.{chunk_told, deal_chunk, ChunkMeets};
 ghost use Rattle.deck_chunk.specs.Code.{LinedMeets, NextMeets, DoneMeets};
 
 use deck::bench::Bench;
 use deck_line::{Line, line_of};
-use lent_bytes;
 
 const BLOCK: usize = 512;
 
@@ -73,28 +72,6 @@ struct Progress {
     bytes: usize,
 }
 
-// How many blocks so many bytes begin.
-fn begun_by(length: usize) -> usize
-    ensures { result ≡ begun length }
-{
-    let whole = length / BLOCK;
-    if length % BLOCK == 0 {
-        return whole;
-    }
-    whole + 1
-}
-
-// Where the block that starts there ends.
-fn end_of(from: usize, blocks: &[u8]) -> usize
-    requires { from ≤ length blocks.now }
-    ensures { result ≡ from + length (block_at from blocks.now) }
-{
-    if blocks.len() - from < BLOCK {
-        return blocks.len();
-    }
-    from + BLOCK
-}
-
 fn deal_line(bench: Bench, block: &[u8], flash: &mut [u8], store: &mut [u8]) -> Lined
     ensures { LinedMeets result flash.new store.new bench block.now flash.old store.old }
 {
@@ -114,28 +91,26 @@ fn put_line(line: Line, at: usize, lines: &mut [u8]) -> usize
 {
     let text = line.bytes;
     let used = line.used;
-    lent_bytes::copy(&text[..used], &mut lines[at..]);
-    at + used
+    let end = at + used;
+    lines[at..end].copy_from_slice(&text[..used]);
+    end
 }
 
-// Deals the block that starts there, if the deck is not over.
+// Deals a block, if the deck is not over.
 fn deal_next(
     progress: Progress,
-    from: usize,
-    blocks: &[u8],
+    block: &[u8],
     lines: &mut [u8],
     flash: &mut [u8],
     store: &mut [u8],
 ) -> Progress
-    requires { (from ≤ length blocks.now) × ((progress.bytes + longest_line ≤ length lines.old) × (progress.blocks ≤ from)) }
-    ensures { NextMeets result lines.new flash.new store.new progress lines.old (deal_next (block_at from blocks.now) (table progress.deck flash.old store.old)) }
+    requires { (progress.bytes + longest_line ≤ length lines.old) × (progress.blocks + 1 < 2 ^ 64) }
+    ensures { NextMeets result lines.new flash.new store.new progress lines.old (deal_next block.now (table progress.deck flash.old store.old)) }
 {
     let deck = progress.deck;
     if deck.is_over {
         return progress;
     }
-    let end = end_of(from, blocks);
-    let block = &blocks[from..end];
     let is_over = block.len() < BLOCK;
     let lined = deal_line(deck.bench, block, flash, store);
     let bench = lined.bench;
@@ -163,11 +138,8 @@ fn deal_blocks(
         blocks: 0,
         bytes: 0,
     };
-    let n = begun_by(blocks.len());
-    let mut i = 0;
-    while i < n {
-        progress = deal_next(progress, i * BLOCK, blocks, lines, flash, store);
-        i += 1;
+    for block in blocks.chunks(BLOCK) {
+        progress = deal_next(progress, block, lines, flash, store);
     }
     progress
 }
@@ -193,7 +165,7 @@ impl Deck {
     ) -> ChunkStep
         ensures { ChunkMeets result lines.new flash.new store.new (deal_chunk blocks.now (table self flash.old store.old) lines.old) }
     {
-        if lines.len() < LONGEST_LINE * begun_by(blocks.len()) {
+        if lines.len() < LONGEST_LINE * blocks.len().div_ceil(BLOCK) {
             return ChunkStep {
                 answer: ChunkAnswer::TooShort,
                 deck: self,

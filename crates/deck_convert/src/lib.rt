@@ -4,7 +4,7 @@
 
 ghost use Rattle.std.specs.Prelude.{◌≡◌, ◌≤◌, length};
 ghost use Rattle.deck_convert.specs.Convert.{new_convert, as_upload, ConvertMeets};
-ghost use Rattle.deck_convert.specs.Code.{block_end, BlockMeets};
+ghost use Rattle.deck_convert.specs.Code.{BlockMeets};
 
 use deck_block::check::{block_check, put_check};
 use deck_block::{CardAnswer, read_card};
@@ -35,17 +35,6 @@ fn to_upload(tag: u32, block: &mut [u8])
     put_check(check, block);
 }
 
-// Where the block ends that starts here: the last may be short.
-fn block_end(from: usize, length: usize) -> usize
-    requires { from ≤ length }
-    ensures { result ≡ block_end from length }
-{
-    if length - from < BLOCK {
-        return length;
-    }
-    from + BLOCK
-}
-
 impl Convert {
     // A deck of which no block is converted yet.
     pub fn new() -> Convert
@@ -64,7 +53,7 @@ impl Convert {
         ensures { BlockMeets result block.new block.old self }
     {
         let mut next = self;
-        next.tag = std::num::wrapping_add_u32(self.tag, 1);
+        next.tag = self.tag.wrapping_add(1);
         if block.len() < BLOCK {
             return next;
         }
@@ -72,11 +61,11 @@ impl Convert {
             return next;
         }
         let CardAnswer::WithdrawnKind = read_card(next.tag, block) else {
-            next.left = std::num::wrapping_add_u64(self.left, 1);
+            next.left = self.left.wrapping_add(1);
             return next;
         };
         to_upload(next.tag, block);
-        next.converted = std::num::wrapping_add_u64(self.converted, 1);
+        next.converted = self.converted.wrapping_add(1);
         next
     }
 
@@ -85,11 +74,10 @@ impl Convert {
         ensures { ConvertMeets result chunk.new chunk.old self }
     {
         let mut convert = self;
-        let mut at = 0;
-        while at < chunk.len() {
-            let end = block_end(at, chunk.len());
+        // By place and not by `chunks_mut`, whose contract does not say what the slice holds behind it.
+        for at in (0..chunk.len()).step_by(BLOCK) {
+            let end = chunk.len().min(at + BLOCK);
             convert = convert.convert_block(&mut chunk[at..end]);
-            at = end;
         }
         convert
     }

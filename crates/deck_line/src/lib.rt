@@ -63,8 +63,7 @@ fn put_hex(start: Line, bytes: &[u8]) -> Line
     ensures { result ≡ put_all start (hex bytes.now) }
 {
     let mut longer = start;
-    for i in 0..bytes.len() {
-        let byte = bytes[i];
+    for &byte in bytes {
         longer = put(longer, digit_of(byte / 16));
         longer = put(longer, digit_of(byte % 16));
     }

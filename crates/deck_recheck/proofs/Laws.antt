@@ -54,10 +54,10 @@ stops_it BadCheck number k = tt
 stops_it Short number k = tt
 
 pub next_none : (step : RecheckStep) (chunk block : List ℕ) → step.bytes ≤ length chunk → OneOf (1 ∷ 2 ∷ []) (tag_of stops.the_type step.recheck.stop)
-    → NextMeets step chunk step chunk (recheck_next block (standing step.recheck))
+    → NextMeets step chunk step.bytes chunk (recheck_next block (standing step.recheck))
 next_none step chunk block inside k =
     let s = standing step.recheck in
-    subst (λ (w : Written). NextMeets step chunk step chunk w) (sym (stopped_none s.told s _ (stops_it step.recheck.stop step.recheck.number k)))
+    subst (λ (w : Written). NextMeets step chunk step.bytes chunk w) (sym (stopped_none s.told s _ (stops_it step.recheck.stop step.recheck.number k)))
     (record { bytes = omega arith; next = refl; leaves = sym (over_nothing step.bytes chunk); inside = omega arith })
 
 -- a block of a deck that has not stopped: short, bad or right
@@ -99,11 +99,11 @@ module _ (step : RecheckStep) (chunk : List ℕ) (number tag : ℕ) (r : Recheck
   stands : (told : ℕ → Told Unit) → record { number = number; tag = tag; told = told number } ≡ behind s (told (next_number s))
   stands told = ap₂ (λ (n t : ℕ). record { number = n; tag = t; told = told n }) counts tags
 
-  pub next_short : r ≡ step_at number tag Short step.bytes → length chunk - step.bytes < 512 → step.bytes ≤ length chunk → NextMeets r chunk step chunk (recheck_next block s)
+  pub next_short : r ≡ step_at number tag Short step.bytes → length chunk - step.bytes < 512 → step.bytes ≤ length chunk → NextMeets r chunk step.bytes chunk (recheck_next block s)
   unfolding stop_told
   next_short is few inside =
       let short : length block < block_length = simp (length-take, length-drop) (omega arith) in
-      subst (λ (w : Written). NextMeets r chunk step chunk w) (sym (is_short_lem block s going (lt-ltb (length block) block_length short)))
+      subst (λ (w : Written). NextMeets r chunk step.bytes chunk w) (sym (is_short_lem block s going (lt-ltb (length block) block_length short)))
       (record {
         bytes = ap (λ (q : RecheckStep). q.bytes) is ∙ (omega arith);
         next = ap (λ (q : RecheckStep). standing q.recheck) is ∙ stands (λ n. refused 44 (n ∷ []));
@@ -122,13 +122,13 @@ module _ (step : RecheckStep) (chunk : List ℕ) (number tag : ℕ) (r : Recheck
     put_there l = put ∙ put_over step.bytes k chunk left (l ∙ sym size)
 
     pub next_bad : r ≡ step_at number tag BadCheck step.bytes → (right : Bool) → right ≡ false → BlockMeets right left tag block
-        → NextMeets r after step chunk (recheck_next block s)
+        → NextMeets r after step.bytes chunk (recheck_next block s)
     unfolding stop_told
     next_bad is right no-sum met =
         let m = subst (λ (b : Bool). BlockMeets b left tag block) no-sum met in
         let same : after ≡ chunk =
         put_there (ap length m.leaves ∙ block_long) ∙ ap (λ (l : List ℕ). over step.bytes l chunk) m.leaves ∙ over_same step.bytes 512 chunk long in
-        subst (λ (w : Written). NextMeets r after step chunk w) (sym (is_bad block s going not_short (sym m.right)))
+        subst (λ (w : Written). NextMeets r after step.bytes chunk w) (sym (is_bad block s going not_short (sym m.right)))
         (record {
           bytes = ap (λ (q : RecheckStep). q.bytes) is ∙ (omega arith);
           next = ap (λ (q : RecheckStep). standing q.recheck) is ∙ stands (λ n. refused 40 (n ∷ []));
@@ -137,14 +137,14 @@ module _ (step : RecheckStep) (chunk : List ℕ) (number tag : ℕ) (r : Recheck
         })
 
     pub next_right : r ≡ step_at number tag NotYet (step.bytes + 512) → (right : Bool) → right ≡ true → BlockMeets right left tag block
-        → NextMeets r after step chunk (recheck_next block s)
+        → NextMeets r after step.bytes chunk (recheck_next block s)
     unfolding stop_told
     next_right is right sum met =
         let m = subst (λ (b : Bool). BlockMeets b left tag block) sum met in
         let enough : checked_length ≤ length block = let l = block_long in omega arith in
         let whole = whole_block (next_tag s) block enough in
         let new : left ≡ with_check (next_tag s) block = m.leaves ∙ ap (λ (t : ℕ). with_check t block) tags in
-        subst (λ (w : Written). NextMeets r after step chunk w) (sym (is_right_lem block s going not_short (sym m.right)))
+        subst (λ (w : Written). NextMeets r after step.bytes chunk w) (sym (is_right_lem block s going not_short (sym m.right)))
         (record {
           bytes = ap (λ (q : RecheckStep). q.bytes) is ∙ ap (λ (n : ℕ). step.bytes + n) (sym whole);
           next = ap (λ (q : RecheckStep). standing q.recheck) is ∙ stands (λ n. given tt);
@@ -191,7 +191,7 @@ ends_there chunk₀ s₀ step chunk way last =
 -- with one block more
 module _ (chunk₀ : List ℕ) (s₀ : Standing) (step : RecheckStep) (chunk : List ℕ) (way : OnTheWay chunk₀ s₀ step chunk) (more : step.bytes < length chunk)
     (r : RecheckStep) (after : List ℕ)
-    (m : NextMeets r after step chunk (recheck_next (block_at step.bytes chunk) (standing step.recheck))) where
+    (m : NextMeets r after step.bytes chunk (recheck_next (block_at step.bytes chunk) (standing step.recheck))) where
   abbrev w : Written
   w = recheck_next (block_at step.bytes chunk) (standing step.recheck)
 
@@ -249,6 +249,9 @@ module _ (chunk₀ : List ℕ) (s₀ : Standing) (step : RecheckStep) (chunk : L
         whole =
             ap (λ (n : ℕ). then_write (written (take r.bytes after) (standing r.recheck)) (λ next. recheck_blocks (blocks_of (drop n chunk₀)) next)) there ∙ opened;
       }
+
+  pub grew : (r.bytes ≡ step.bytes → ⊥) → r.bytes ≡ step.bytes + block_length
+  grew onward = ⊎_elim (λ stopped. absurd (onward (stood stopped.0))) (λ all. m.bytes ∙ ap (λ (n : ℕ). step.bytes + n) all) outcome
 
   pub goes_on : (r.bytes ≡ step.bytes → ⊥) → OnTheWay chunk₀ s₀ r after
   goes_on onward = ⊎_elim (λ stopped. absurd (onward (stood stopped.0))) went outcome

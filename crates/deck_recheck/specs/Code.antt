@@ -15,9 +15,9 @@ pub record BlockMeets (r : Bool) (after : List ℕ) (tag : ℕ) (block : List �
   pub right : r ≡ ((fields_of block).check == first_check block)
   pub leaves : after ≡ pick r (with_check tag block) block
 
--- one block more, behind the bytes that are rechecked
-pub record NextMeets (r : RecheckStep) (after : List ℕ) (s : RecheckStep) (before : List ℕ) (w : Written) : Type 0 where
-  pub bytes : r.bytes ≡ s.bytes + length w.bytes
+-- one block more, behind the first `from` bytes, which are rechecked
+pub record NextMeets (r : RecheckStep) (after : List ℕ) (from : ℕ) (before : List ℕ) (w : Written) : Type 0 where
+  pub bytes : r.bytes ≡ from + length w.bytes
   pub next : standing r.recheck ≡ w.leaves
-  pub leaves : after ≡ over s.bytes w.bytes before
-  pub inside : s.bytes + length w.bytes ≤ length before
+  pub leaves : after ≡ over from w.bytes before
+  pub inside : from + length w.bytes ≤ length before

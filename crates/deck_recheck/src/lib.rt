@@ -83,19 +83,20 @@ fn step_at(number: u64, tag: u32, stop: Stop, bytes: usize) -> RecheckStep
     }
 }
 
-// Rechecks the block behind those that are rechecked, unless the deck has stopped.
-fn recheck_next(step: RecheckStep, chunk: &mut [u8]) -> RecheckStep
-    requires { step.bytes < length chunk.old }
-    ensures { NextMeets result chunk.new step chunk.old (recheck_next (block_at step.bytes chunk.old) (standing step.recheck)) }
+// Rechecks the block that starts there, unless the deck has stopped.
+fn recheck_next(recheck: Recheck, from: usize, chunk: &mut [u8]) -> RecheckStep
+    requires { from < length chunk.old }
+    ensures { NextMeets result chunk.new from chunk.old (recheck_next (block_at from chunk.old) (standing recheck)) }
 {
-    let recheck = step.recheck;
     let stop = recheck.stop;
     let Stop::NotYet = stop else {
-        return step;
+        return RecheckStep {
+            bytes: from,
+            recheck,
+        };
     };
-    let number = std::num::wrapping_add_u64(recheck.number, 1);
-    let tag = std::num::wrapping_add_u32(recheck.tag, 1);
-    let from = step.bytes;
+    let number = recheck.number.wrapping_add(1);
+    let tag = recheck.tag.wrapping_add(1);
     if chunk.len() - from < BLOCK {
         return step_at(number, tag, Stop::Short, from);
     }
@@ -122,17 +123,18 @@ impl Recheck {
     pub fn recheck_chunk(self, chunk: &mut [u8]) -> RecheckStep
         ensures { RecheckMeets result chunk.new chunk.old (recheck_all chunk.old (standing self)) }
     {
-        let mut step = RecheckStep {
-            bytes: 0,
-            recheck: self,
-        };
-        while step.bytes < chunk.len() {
-            let next = recheck_next(step, chunk);
-            if next.bytes == step.bytes {
-                return next;
+        let mut recheck = self;
+        // By place and not by `chunks_mut`, whose contract does not say what the slice holds behind it.
+        for from in (0..chunk.len()).step_by(BLOCK) {
+            let step = recheck_next(recheck, from, chunk);
+            if step.bytes == from {
+                return step;
             }
-            step = next;
+            recheck = step.recheck;
         }
-        step
+        RecheckStep {
+            bytes: chunk.len(),
+            recheck,
+        }
     }
 }

@@ -36,7 +36,7 @@ module _ {A : Type 0} where
 
   answer_of_lem : (a : Result Unit RkBootError) (v : A) (t : List ℕ) → answer_of (boot_told a v t) ≡ a
   unfolding answer_of boot_told
-  answer_of_lem (Ok tt) v t = refl
+  answer_of_lem (Ok u) v t = refl
   answer_of_lem (Err e) v t = ap Err (error_of_lem e t)
 
   -- of the four readers: the answer, the record beside it and the tag
@@ -51,7 +51,7 @@ module _ {A : Type 0} where
   -- the number of an answer is that of what it tells, whatever stands beside it
   pub boot_number : (a : Result Unit RkBootError) (v : A) (t : List ℕ) → number (boot_told a v t) ≡ boot_answer_number a
   unfolding boot_told number
-  boot_number (Ok tt) v t = refl
+  boot_number (Ok u) v t = refl
   boot_number (Err e) v t = refl
 
 -- what `number` answers for a reader's answer is the number of what it tells

@@ -34,7 +34,7 @@ pub place_for_number : (0 ≡ direction_number In → ⊥) × (6 ≡ code_number
     × (13 ≡ storage_number Ufs → ⊥)
 place_for_number = ((λ e. omega arith), (λ e. omega arith), (λ e. omega arith), (λ e. omega arith), (λ e. omega arith))
 
--- `from_number` with one answer for two numbers, each of which has a value of its own
+-- `try_from` with one answer for two numbers, each of which has a value of its own
 pub one_answer_for_two : (d : (Result Direction UnknownDirection)) (c : (Result CommandCode UnknownCode)) (s : (Result Status UnknownStatus)) (r : (Result ResetOpcode UnknownReset)) (i : StorageIndex)
     → (direction_read_told d ≡ direction_of 0x80 → direction_read_told d ≡ direction_of 0x00 → ⊥)
     × (code_read_told c ≡ code_of 0x14 → code_read_told c ≡ code_of 0x15 → ⊥) × (status_read_told s ≡ status_of 0 → status_read_told s ≡ status_of 1 → ⊥)
@@ -48,7 +48,7 @@ one_answer_for_two d c s r i = (
   (λ e f. let z : ◌≡◌ {A = ℕ} 0 1 = cc in omega arith),
 )
 
--- `from_number` that reads a number as the value of a neighbour
+-- `try_from` that reads a number as the value of a neighbour
 pub read_as_a_neighbour : (direction_read_told (Ok Out) ≡ direction_of 0x80 → ⊥) × (code_read_told (Ok EraseForce) ≡ code_of 0x25 → ⊥)
     × (status_read_told (Ok FAILED) ≡ status_of 2 → ⊥) × (reset_read_told (Ok Maskrom) ≡ reset_of 4 → ⊥) × (Pcie ≡ storage_of 12 → ⊥)
 unfolding by_number known direction_of code_of status_of reset_of storage_of direction_read_told code_read_told status_read_told reset_read_told
@@ -60,7 +60,7 @@ read_as_a_neighbour = (
   (λ e. let z : ◌≡◌ {A = ℕ} 0 1 = cc in omega arith),
 )
 
--- `from_number` that tells 0 for an unknown number
+-- `try_from` that tells 0 for an unknown number
 pub unknown_number_untold : (direction_read_told (Err (record { 0 = 0 })) ≡ direction_of 1 → ⊥) × (code_read_told (Err (record { 0 = 0 })) ≡ code_of 2 → ⊥)
     × (status_read_told (Err (record { 0 = 0 })) ≡ status_of 2 → ⊥) × (reset_read_told (Err (record { 0 = 0 })) ≡ reset_of 5 → ⊥) × (Unknown 0 ≡ storage_of 13 → ⊥)
 unfolding by_number known direction_of code_of status_of reset_of storage_of direction_read_told code_read_told status_read_told reset_read_told
@@ -72,7 +72,7 @@ unknown_number_untold = (
   (λ e. let z : ◌≡◌ {A = ℕ} 0 13 = cc in omega arith),
 )
 
--- `number` of `(Result Direction UnknownDirection)`, `(Result CommandCode UnknownCode)`, `(Result Status UnknownStatus)`, `(Result ResetOpcode UnknownReset)` with one number for what is known and what is not
+-- `number` of what `try_from` of `Direction`, `CommandCode`, `Status`, `ResetOpcode` answers, with one number for what is known and what is not
 pub known_and_unknown_alike : (n : ℕ)
     → (n ≡ number (direction_read_told (Ok In)) → n ≡ number (direction_read_told (Err (record { 0 = 1 }))) → ⊥)
     × (n ≡ number (code_read_told (Ok ReadLBA)) → n ≡ number (code_read_told (Err (record { 0 = 2 }))) → ⊥)

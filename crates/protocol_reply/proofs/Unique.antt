@@ -6,24 +6,24 @@ use Rattle.promise.specs.Rules.{pick}
 use Rattle.protocol_codes.specs.declared.StorageIndex.{StorageIndex}
 use Rattle.protocol_reply.specs.declared.size.SectorCount.{SectorCount}
 use Rattle.rule_number.specs.Number.{number_of}
-use Rattle.protocol_reply.specs.Media.{parse_failure_number, storage_told}
+use Rattle.protocol_reply.specs.Media.{not_one_bit_number, storage_told}
 use Rattle.protocol_reply.specs.Sectors.{sector_error_number, sector_told}
 use Rattle.std.specs.Prelude.{Result}
-use Rattle.protocol_reply.specs.declared.media.ReplyParseFailure.{ReplyParseFailure}
+use Rattle.protocol_reply.specs.declared.media.NotOneBit.{NotOneBit}
 use Rattle.std.specs.declared.result.Result.TheVariants.{Ok, Err}
 use Rattle.protocol_reply.specs.declared.size.SectorError.{SectorError}
 use Rattle.protocol_reply.specs.declared.size.SectorError.TheVariants as sector_error
 
-abbrev storage_of : Told StorageIndex → (Result StorageIndex ReplyParseFailure)
+abbrev storage_of : Told StorageIndex → (Result StorageIndex NotOneBit)
 storage_of (given index) = Ok index
 storage_of (refused n values) = Err (record {})
 
-storage_of_lem : (a : Result StorageIndex ReplyParseFailure) → storage_of (storage_told a) ≡ a
+storage_of_lem : (a : Result StorageIndex NotOneBit) → storage_of (storage_told a) ≡ a
 unfolding storage_told
 storage_of_lem (Ok index) = refl
 storage_of_lem (Err e) = refl
 
-pub storage_unique : (told : Told StorageIndex) (r s : Result StorageIndex ReplyParseFailure) → storage_told r ≡ told → storage_told s ≡ told → r ≡ s
+pub storage_unique : (told : Told StorageIndex) (r s : Result StorageIndex NotOneBit) → storage_told r ≡ told → storage_told s ≡ told → r ≡ s
 storage_unique told r s p q = sym (storage_of_lem r) ∙ ap storage_of (p ∙ sym q) ∙ storage_of_lem s
 
 abbrev sectors_of : Told SectorCount → (Result SectorCount SectorError)
@@ -40,7 +40,7 @@ pub sectors_unique : (told : Told SectorCount) (r s : Result SectorCount SectorE
 sectors_unique told r s p q = sym (sectors_of_lem r) ∙ ap sectors_of (p ∙ sym q) ∙ sectors_of_lem s
 
 -- the number of an answer is the number of what it tells
-pub storage_answer_number : (r : Result StorageIndex ReplyParseFailure) → number (storage_told r) ≡ number_of parse_failure_number r
+pub storage_answer_number : (r : Result StorageIndex NotOneBit) → number (storage_told r) ≡ number_of not_one_bit_number r
 unfolding number storage_told
 storage_answer_number (Ok index) = refl
 storage_answer_number (Err e) = refl

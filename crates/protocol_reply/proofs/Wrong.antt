@@ -21,7 +21,7 @@ use Rattle.protocol_reply.specs.Media.{places_set, only_place, read_storage, sto
 use Rattle.protocol_reply.specs.Sectors.{sectors_in, sector_told}
 use Rattle.protocol_reply.proofs.Examples.{p11}
 use Rattle.std.specs.Prelude.{Result}
-use Rattle.protocol_reply.specs.declared.media.ReplyParseFailure.{ReplyParseFailure}
+use Rattle.protocol_reply.specs.declared.media.NotOneBit.{NotOneBit}
 use Rattle.std.specs.declared.result.Result.TheVariants.{Ok, Err}
 use Rattle.protocol_reply.specs.declared.size.SectorError.{SectorError}
 use Rattle.protocol_reply.specs.declared.size.SectorError.TheVariants as sector_error
@@ -153,7 +153,7 @@ pub flag_moved : TellsApart direct_lba vendor_storage × TellsApart vendor_stora
 flag_moved = (not_set, not_set, not_set, not_set, not_set, not_set, not_set, not_set, not_set)
 
 -- a storage reply with two bits taken for one
-pub two_bits_taken : (r : Result StorageIndex ReplyParseFailure) (index : StorageIndex) → storage_told r ≡ given index → storage_told r ≡ read_storage (0x03 ∷ 0x00 ∷ 0x00 ∷ 0x00 ∷ []) → ⊥
+pub two_bits_taken : (r : Result StorageIndex NotOneBit) (index : StorageIndex) → storage_told r ≡ given index → storage_told r ≡ read_storage (0x03 ∷ 0x00 ∷ 0x00 ∷ 0x00 ∷ []) → ⊥
 two_bits_taken r index told meets = let z : ◌≡◌ {A = ℕ} 0 1 = cc (told, meets, p11) in omega arith
 
 -- the place of the bit counted from the top: bit 1 would be index 30
@@ -171,22 +171,22 @@ pub one_sector_too_many : (r : Result SectorCount SectorError) (count : SectorCo
 unfolding sectors_in or_refuse
 one_sector_too_many r count told meets = let z : ◌≡◌ {A = ℕ} 0 1 = cc in omega arith
 
--- `(Result SectorCount SectorError)::number` with one number for both refusals
+-- `number` of a sector answer with one number for both refusals
 pub one_number_for_lengths : (n : ℕ) → n ≡ number (sector_told (Err sector_error.NotSectors)) → n ≡ number (sector_told (Err sector_error.TooMany)) → ⊥
 unfolding number sector_told
 one_number_for_lengths n e f = omega arith
 
--- `(Result SectorCount SectorError)::number` that tells the count where there is one
+-- `number` of a sector answer that tells the count where there is one
 pub count_for_number : 8 ≡ number (sector_told (Ok (record { 0 = 8 }))) → ⊥
 unfolding number sector_told
 count_for_number e = omega arith
 
--- `(Result StorageIndex ReplyParseFailure)::number` that tells 0 for a refusal
+-- `number` of a storage answer that tells 0 for a refusal
 pub refusal_told_as_0 : 0 ≡ number (storage_told (Err (record {}))) → ⊥
 unfolding number storage_told
 refusal_told_as_0 e = omega arith
 
--- `(Result StorageIndex ReplyParseFailure)::number` that tells 14 where there is an index
+-- `number` of a storage answer that tells 14 where there is an index
 pub index_told_as_refusal : (index : StorageIndex) → 14 ≡ number (storage_told (Ok index)) → ⊥
 unfolding number storage_told
 index_told_as_refusal index e = omega arith

@@ -16,12 +16,12 @@ use Rattle.promise.proofs.Outcome.{by_test, passed}
 use Rattle.mock_areas.specs.declared.Area.{Area}
 use Rattle.mock_areas.specs.declared.Areas.{Areas}
 use Rattle.mock_areas.specs.declared.Place.{Place}
-use Rattle.mock_areas.specs.declared.Wanted.TheVariants.{Number}
 use Rattle.mock_areas.specs.Slots.{slot_count, slot_size, free_slot, passes, held_at, is_held, used_at, place}
 use Rattle.mock_areas.specs.Append.{Appending, held_by, append_rules, refused_append, appended_at, append_step}
 use Rattle.mock_areas.proofs.Search.{first_set}
 use Rattle.mock_areas.proofs.Room.{slot_inside}
 use Rattle.mock_areas.proofs.Cases.{appended}
+use Rattle.std.specs.declared.option.Option.TheVariants.{Some, None}
 
 -- bytes put behind bytes that were just put
 over_join : (at : ℕ) (xs ys before : List ℕ) → at + length xs ≤ length before → over (at + length xs) ys (over at xs before) ≡ over at (xs ++ ys) before
@@ -65,7 +65,7 @@ module _ (number : ℕ) (slots : List Area) (eight : length slots ≡ slot_count
   found_there =
       let i = (place number slots).slot in
       let x : Area = record { held = true; number = number; used = used } in
-      let here : held_at number (set slots i x) ≡ i = first_set (passes (Number number)) free_slot slots i x (omega arith) not_behind (eq-eqb number number refl) in
+      let here : held_at number (set slots i x) ≡ i = first_set (passes (Some number)) free_slot slots i x (omega arith) not_behind (eq-eqb number number refl) in
       let count : used_at i (set slots i x) ≡ used = ap (λ (a : Area). a.used) (get_or-set_same slots i x free_slot (omega arith)) in
       rw (here, lt-ltb i slot_count slot, count)
 

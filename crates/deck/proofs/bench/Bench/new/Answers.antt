@@ -44,5 +44,5 @@ returns c =
     record {
       tells = m;
       fresh = fresh made.result config.result (length a.flash.now) (length a.store.now) config.ensures made.ensures;
-      leaves = c.clear.ensures ∙ done_cleared made.result.answer (start_told (length a.flash.now)) a.flash.now m c.in-Done.is;
+      leaves = c.fill.ensures.after (λ y e. e) ∙ done_cleared made.result.answer (start_told (length a.flash.now)) a.flash.now m c.in-Done.is;
     }
