@@ -46,9 +46,7 @@ fn print_convert<W: Write>(to: &mut W, convert: Convert) -> Result<()> {
     writeln!(
         to,
         "tag {}, converted {}, left {}",
-        convert.tag,
-        convert.converted,
-        convert.left
+        convert.tag, convert.converted, convert.left
     )
 }
 
