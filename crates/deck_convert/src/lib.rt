@@ -7,7 +7,7 @@ ghost use Rattle.deck_convert.specs.Convert.{new_convert, as_upload, ConvertMeet
 ghost use Rattle.deck_convert.specs.Code.{BlockMeets};
 
 use deck_block::check::{block_check, put_check};
-use deck_block::{CardAnswer, read_card};
+use deck_block::{CardError, Request, read_card};
 
 const BLOCK: usize = 512;
 
@@ -60,7 +60,7 @@ impl Convert {
         if block[0] != WITHDRAWN {
             return next;
         }
-        let CardAnswer::WithdrawnKind = read_card(next.tag, block) else {
+        let Err(CardError::WithdrawnKind) = read_card(next.tag, block) else {
             next.left = self.left.wrapping_add(1);
             return next;
         };
