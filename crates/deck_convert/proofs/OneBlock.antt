@@ -1,8 +1,6 @@
 -- One block: whether it is converted or left, how it is read, and that it is as long as it was.
-use Rattle.std.proofs.Common.{◌≡◌, ℕ, suc, ◌<◌, ◌≤◌, Bool, true, false, not, eqb, List, [], ◌∷◌, length, drop, set, sym, refl, ap, ◌∙◌, subst, arith, length-drop, ltb-false, ltb-true, le-ltb, lt-ltb, eq-eqb, ne_eqb, eqb-true}
+use Rattle.std.proofs.Common.{◌≡◌, ℕ, suc, ◌<◌, ◌≤◌, Bool, true, false, not, eqb, List, [], ◌∷◌, length, drop, set, sym, refl, ap, ◌∙◌, arith, length-drop, ltb-false, ltb-true, le-ltb, lt-ltb, eq-eqb, ne_eqb, eqb-true}
 use mathlib.Core.Bool.{false≢true}
-use types.Run.{OneOf, miss}
-use denote.Enum.Declared.{tag_of}
 use borrow.Author.Tests.{eqb-false}
 use Rattle.promise.specs.Told.{Told, refused}
 use Rattle.promise.specs.Rules.{pick, or_refuse}
@@ -14,13 +12,12 @@ use Rattle.deck_block.specs.Blocks.{is_short}
 use Rattle.deck_block.specs.Reading.{card_told, read_by, read_card}
 use Rattle.deck_block.proofs.Rechecked.{whole_block}
 use Rattle.deck_block.proofs.Unique.{one_answer}
-use Rattle.deck_block.specs.contracts.CardAnswer as answers
 use Rattle.deck_convert.specs.declared.Convert.{Convert}
 use Rattle.deck_convert.specs.Convert.{is_unchecked, is_right, is_converted, is_left, as_upload, convert_block, counted, behind}
 use Rattle.deck_convert.specs.Code.{BlockMeets}
 use Rattle.std.specs.Prelude.{Result}
 use Rattle.deck_block.specs.declared.CardError.{CardError}
-use Rattle.std.specs.declared.result.Result.TheVariants.{Ok, Err}
+use Rattle.std.specs.declared.result.Result.TheVariants.{Err}
 use Rattle.deck_block.specs.declared.CardError.TheVariants as card_error
 
 module _ (tag : ℕ) (block : List ℕ) where
@@ -64,14 +61,13 @@ module _ (tag : ℕ) (block : List ℕ) where
         (let wrong : read_card tag block ≡ refused 40 [] = read_unchecked ∙ ap {B = Told Request} (λ (b : Bool). pick b (refused 46 []) (refused 40 [])) e in
         let z : ◌≡◌ {A = ℕ} 46 40 = cc (told, wrong) in omega arith))
 
-    pub other_wrong : (a : Result Request CardError) → OneOf (0 ∷ 1 ∷ 2 ∷ 4 ∷ 5 ∷ 6 ∷ 7 ∷ []) (tag_of answers.the_type a) → card_told a ≡ read_card tag block → is_right tag block ≡ false
+    pub other_wrong : (a : Result Request CardError) → (a ≡ Err card_error.WithdrawnKind → ⊥) → card_told a ≡ read_card tag block → is_right tag block ≡ false
     unfolding card_told
     other_wrong a other told =
         on_test (is_right tag block)
         (λ e. absurd
         (let right : read_card tag block ≡ card_told (Err card_error.WithdrawnKind) = read_unchecked ∙ ap {B = Told Request} (λ (b : Bool). pick b (refused 46 []) (refused 40 [])) e in
-        let is : a ≡ (Err card_error.WithdrawnKind) = one_answer a (Err card_error.WithdrawnKind) (read_card tag block) told (sym right) in
-        miss (0 ∷ 1 ∷ 2 ∷ 4 ∷ 5 ∷ 6 ∷ 7 ∷ []) 3 tt (subst (λ (x : Result Request CardError). OneOf (0 ∷ 1 ∷ 2 ∷ 4 ∷ 5 ∷ 6 ∷ 7 ∷ []) (tag_of answers.the_type x)) is other)))
+        other (one_answer a (Err card_error.WithdrawnKind) (read_card tag block) told (sym right))))
         (λ e. e)
 
   -- a converted one is whole, of kind 13 and right
