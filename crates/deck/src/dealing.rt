@@ -9,7 +9,7 @@ ghost use Rattle.deck.specs.Dealing.{operate, load, load_of, carry_out, deal_blo
 ghost use Rattle.deck.specs.Code.{room, plain_start};
 
 use crate::verdict::{Dealt, loaded, operated, turned_away};
-use deck_block::{CardAnswer, Request, read_card};
+use deck_block::{CardError, Request, read_card};
 use maskrom::{WholeUpload, write_area};
 use mock::device::MockState;
 use operation::starts::{
@@ -19,6 +19,7 @@ use operation::starts::{
 use operation::steps::UsbOperation;
 use run_operation::{run_whole, run_whole_write};
 use run_upload::run_whole_upload;
+use rule_number::RuleNumber;
 
 // As many bytes as the longest image and the data of 16 sectors have.
 fn filled(fill: u8) -> [u8; 8192]
@@ -157,7 +158,7 @@ pub fn deal_block(
     ensures { DealMeets result flash.new store.new (deal_block tag block.now (head device flash.old store.old)) }
 {
     let card = read_card(tag, block);
-    let CardAnswer::Asks(request) = card else {
+    let Ok(request) = card else {
         return turned_away(card.number(), device);
     };
     deal_request(tag, request, device, flash, store)

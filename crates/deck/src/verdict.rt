@@ -13,6 +13,7 @@ use operation_finish::{Beside, FinishAnswer, UsbReply};
 use run_operation::{RunAnswer, UsbRun};
 use run_turn::Stop;
 use run_upload::{LoadAnswer, LoadRun, LoadStop};
+use rule_number::RuleNumber;
 
 // The value, or the number of a refusal.
 #[derive(Clone, Copy)]

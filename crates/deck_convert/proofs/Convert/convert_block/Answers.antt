@@ -1,11 +1,13 @@
 -- A short block and one of another kind stay; one of kind 13 is converted where it is read as withdrawn, and left where it is not.
-use Rattle.std.proofs.Common.{true, false, sym, refl, ap, ◌∙◌}
+use Rattle.std.proofs.Common.{◌≡◌, true, false, sym, refl, ap, ◌∙◌, rules}
 use Rattle.deck_block.specs.Block.{fields_of}
 use Rattle.deck_block.specs.Place.{tag_after}
 use Rattle.deck_block.specs.Reading.{card_told}
 use Rattle.deck_convert.proofs.OneBlock.{short_neither, other_neither, by_check, withdrawn_right, other_wrong, block_meets}
-use borrow.Enum.Refused.{opened}
+use Rattle.std.specs.declared.result.Result.TheVariants.{Err}
+use Rattle.deck_block.specs.declared.CardError.TheVariants as card_error
 use Rattle.deck_convert.proofs.Convert.convert_block.Goals as goal
+use Rattle.deck_convert.proofs.Convert.convert_block.Goals.{in_default-via-in-Err+in_default, in_default-via-in_default}
 
 pub returns-then-block-lt-BLOCK : goal.returns-then-block-lt-BLOCK
 returns-then-block-lt-BLOCK c =
@@ -21,13 +23,16 @@ returns-then-block-ne-WITHDRAWN c =
     block_meets _ _ a.block.now a.self _ false false refl
     (other_neither tag a.block.now c.if-block-lt-BLOCK.false c.if-block-ne-WITHDRAWN.true) refl refl
 
+other_answer : (c : goal.After-struct_known-in_default-1) → c.read_card.result ≡ Err card_error.WithdrawnKind → ⊥
+other_answer c e = elim c.in_default.branch [ in_default-via-in-Err+in_default w ↦ search rules | in_default-via-in_default w ↦ absurd (cc (e, w.in_default.is)) ]
+
 pub returns-in_default : goal.returns-in_default
 unfolding fields_of
 returns-in_default c =
     let long = c.if-block-lt-BLOCK.false in
     let tag = tag_after c.args.self.tag in
     let a = c.args in
-    let wrong = other_wrong tag a.block.now long c.if-block-ne-WITHDRAWN.false _ (opened c.in_default.in_default-own.keys2) c.read_card.ensures in
+    let wrong = other_wrong tag a.block.now long c.if-block-ne-WITHDRAWN.false _ (other_answer c) c.read_card.ensures in
     block_meets _ _ a.block.now a.self _ false true refl
     (by_check tag a.block.now long c.if-block-ne-WITHDRAWN.false false wrong)
     refl refl
@@ -38,9 +43,10 @@ returns c =
     let long = c.if-block-lt-BLOCK.false in
     let tag = tag_after c.args.self.tag in
     let a = c.args in
+    let withdrawn : c.read_card.result ≡ Err card_error.WithdrawnKind = c.in-Err-WithdrawnKind.is ∙ ap Err c.in-Err-WithdrawnKind.field-0-is in
     let right =
     withdrawn_right tag a.block.now long c.if-block-ne-WITHDRAWN.false
-    (sym (ap card_told c.in-WithdrawnKind.is) ∙ c.read_card.ensures) in
+    (sym (ap card_told withdrawn) ∙ c.read_card.ensures) in
     block_meets _ _ a.block.now a.self _ true false refl
     (by_check tag a.block.now long c.if-block-ne-WITHDRAWN.false true right)
     refl c.to_upload.ensures
