@@ -4,7 +4,6 @@
 #![tactic(auto)]
 
 ghost use Rattle.std.specs.Prelude.{◌≡◌, ◌+◌, ◌≤◌, min, length};
-ghost use Rattle.std.specs.declared.result.Result.TheVariants.{Ok};
 ghost use Rattle.crc.specs.Check.{crc_over};
 ghost use Rattle.promise.specs.Told.{given};
 ghost use Rattle.promise.specs.Does.{Meets};

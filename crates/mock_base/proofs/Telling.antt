@@ -50,9 +50,3 @@ unfolding size_done size_told and_then
 size_answered P (Ok sectors) (Ok done) e = answers_done
 size_answered P (Ok sectors) (Err error) e = absurd e
 size_answered P (Err error) answer e = rw e (answers_error error (error_told error no_signature) refl)
-
--- the answer to a length whose refusal is known
-pub size_refused : (found : Result ℕ MockTransportError) (error : MockTransportError) → found ≡ Err error
-    → Answers (record { result = Err error; signature = no_signature }) (size_done found)
-unfolding size_done size_told and_then
-size_refused found error e = rw e (answers_error error (error_told error no_signature) refl)

@@ -100,7 +100,7 @@ beside_finished (given reply) = refl
 beside_finished (refused n values) = refl
 
 -- the finish's answer, passed on
-passed_on : (answer : Result UsbReply UsbOperationError) (b : Beside) → step_told (finished_by answer) b ≡ finished_told (finish_told answer b)
+pub passed_on : (answer : Result UsbReply UsbOperationError) (b : Beside) → step_told (finished_by answer) b ≡ finished_told (finish_told answer b)
 unfolding step_told finished_told finish_told and_then
 passed_on (Ok reply) b = refl
 passed_on (Err error) b = refl

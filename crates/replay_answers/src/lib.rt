@@ -5,6 +5,7 @@
 
 #![tactic(auto)]
 
+pub mod answer;
 pub mod out;
 pub mod refusals;
 pub mod told;

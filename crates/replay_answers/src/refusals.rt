@@ -1,23 +1,23 @@
 // Refusals with their values.
-use crate::told::{Told, four, none, one};
+use crate::told::Told;
 use protocol::CommandBlockParseError;
 use protocol_status::failure::UsbOperationError;
 
 pub fn command_error(error: CommandBlockParseError, signature: [u8; 4]) -> Told {
-    let number = error.number() as u64;
+    let number = error.number();
     match error {
-        CommandBlockParseError::InvalidLength(n) => one(number, n as u64),
-        CommandBlockParseError::InvalidSignature => four(number, signature),
-        CommandBlockParseError::UnknownFlags(byte) => one(number, byte as u64),
-        CommandBlockParseError::UnknownCommandCode(byte) => one(number, byte as u64),
+        CommandBlockParseError::InvalidLength(n) => Told::of(number, &[n as u64]),
+        CommandBlockParseError::InvalidSignature => Told::of_bytes(number, signature),
+        CommandBlockParseError::UnknownFlags(byte) => Told::of(number, &[u64::from(byte)]),
+        CommandBlockParseError::UnknownCommandCode(byte) => Told::of(number, &[u64::from(byte)]),
     }
 }
 
 pub fn operation_error(error: UsbOperationError, signature: [u8; 4]) -> Told {
-    let number = error.number() as u64;
+    let number = error.number();
     match error {
-        UsbOperationError::InvalidStatusSignature => four(number, signature),
-        UsbOperationError::InvalidStatusStatus(byte) => one(number, byte as u64),
-        _ => none(number),
+        UsbOperationError::InvalidStatusSignature => Told::of_bytes(number, signature),
+        UsbOperationError::InvalidStatusStatus(byte) => Told::of(number, &[u64::from(byte)]),
+        _ => Told::of(number, &[]),
     }
 }

@@ -1,55 +1,30 @@
-// Replies as values of an answer, and storage indices, which are two numbers.
-use crate::told::{Answer, Told, none, two, with_small};
-use protocol_codes::StorageIndex;
-use protocol_reply::flags::Capability;
-use protocol_reply::info::{ChipInfo, FlashId, FlashInfo};
-use replay_lines::buffer::copy;
+// Storage indices and reset opcodes, read and told.
+use crate::told::Told;
+use protocol_codes::{ResetOpcode, ResetRead, StorageIndex};
+use replay_lines::tokens::Tokens;
 
-pub fn widened(bytes: &[u8]) -> [u8; 16] {
-    let mut wide = [0u8; 16];
-    copy(bytes, &mut wide);
-    wide
-}
-
-pub fn chip_value(info: ChipInfo) -> Answer {
-    with_small(none(0), info.inner(), 16)
-}
-
-pub fn id_value(id: FlashId) -> Answer {
-    let inner = id.inner();
-    with_small(none(0), widened(&inner), 5)
-}
-
-pub fn info_value(told: Told, info: FlashInfo) -> Answer {
-    let inner = info.inner();
-    with_small(told, widened(&inner), 11)
-}
-
-pub fn capability_value(told: Told, capability: Capability) -> Answer {
-    let inner = capability.inner();
-    with_small(told, widened(&inner), 8)
-}
-
+// A storage index is two numbers.
 pub fn storage(index: StorageIndex) -> Told {
     match index {
-        StorageIndex::Unknown(n) => two(0, 0, n as u64),
-        _ => two(0, 1, index.number() as u64),
+        StorageIndex::Unknown(n) => Told::of(0, &[0, u64::from(n)]),
+        _ => Told::of(0, &[1, u64::from(index.number())]),
     }
 }
 
-#[derive(Clone, Copy)]
-pub enum IndexRead {
-    Known(StorageIndex),
-    Nothing,
+// NAMED INDEX. Named are 0 to 12 only; any number may be unknown.
+pub fn read_storage(tokens: &mut Tokens) -> Option<StorageIndex> {
+    let named = tokens.at_most(1)?;
+    let n = tokens.u8()?;
+    match named {
+        0 => Some(StorageIndex::Unknown(n)),
+        _ if n > 12 => None,
+        _ => Some(StorageIndex::from_number(n)),
+    }
 }
 
-// Named are 0 to 12 only; any number may be unknown.
-pub fn index(is_named: u64, n: u8) -> IndexRead {
-    if is_named == 0 {
-        return IndexRead::Known(StorageIndex::Unknown(n));
+pub fn read_reset(tokens: &mut Tokens) -> Option<ResetOpcode> {
+    match ResetOpcode::from_number(tokens.u8()?) {
+        ResetRead::Known(opcode) => Some(opcode),
+        ResetRead::Unknown(_) => None,
     }
-    if n > 12 {
-        return IndexRead::Nothing;
-    }
-    IndexRead::Known(StorageIndex::from_number(n))
 }

@@ -1,38 +1,33 @@
 // "Blocks": command and status blocks, read and written.
-use crate::commands::{Built, command};
 use protocol::{CommandAnswer, CommandBlock, CommandParse};
 use protocol_bytes::output::Written;
 use protocol_codes::{Status, StatusRead};
 use protocol_status::failure::UsbOperationError;
 use protocol_status::report::{CommandStatus, CommandStatusParseError, StatusAnswer, StatusParse};
 use replay_answers::refusals::{command_error, operation_error};
-use replay_answers::told::{Told, four, nine, none, one, outside, three};
-use replay_lines::asked::Asked;
-use replay_lines::buffer::within;
-use replay_lines::line::{as_u8, as_u32};
-use replay_lines::names::{CNV, CRD, CWR, SMP, SRD, STO};
-use replay_replies::replies;
+use replay_answers::told::Told;
+use replay_lines::tokens::Tokens;
 
 fn fields(block: CommandBlock) -> Told {
-    nine(
+    Told::of(
         0,
-        [
-            block.tag() as u64,
-            block.transfer_length() as u64,
-            block.direction().number() as u64,
-            block.lun as u64,
-            block.cdb_length as u64,
-            block.cd_code().number() as u64,
-            block.cd_opcode() as u64,
-            block.cd_address() as u64,
-            block.cd_length() as u64,
+        &[
+            u64::from(block.tag()),
+            u64::from(block.transfer_length()),
+            u64::from(block.direction().number()),
+            u64::from(block.lun),
+            u64::from(block.cdb_length),
+            u64::from(block.cd_code().number()),
+            u64::from(block.cd_opcode()),
+            u64::from(block.cd_address()),
+            u64::from(block.cd_length()),
         ],
     )
 }
 
-fn command_told(parse: CommandParse) -> Told {
-    let answer = parse.answer;
-    let signature = parse.signature;
+// `crd`
+pub(crate) fn read_command(bytes: &[u8]) -> Told {
+    let CommandParse { answer, signature } = CommandBlock::from_bytes(bytes);
     match answer {
         CommandAnswer::Block(block) => fields(block),
         CommandAnswer::Refused(error) => command_error(error, signature),
@@ -40,102 +35,86 @@ fn command_told(parse: CommandParse) -> Told {
 }
 
 fn status_error(error: CommandStatusParseError, signature: [u8; 4]) -> Told {
-    let number = error.number() as u64;
+    let number = error.number();
     match error {
-        CommandStatusParseError::InvalidLength(n) => one(number, n as u64),
-        CommandStatusParseError::InvalidSignature => four(number, signature),
-        CommandStatusParseError::InvalidStatus(byte) => one(number, byte as u64),
+        CommandStatusParseError::InvalidLength(n) => Told::of(number, &[n as u64]),
+        CommandStatusParseError::InvalidSignature => Told::of_bytes(number, signature),
+        CommandStatusParseError::InvalidStatus(byte) => Told::of(number, &[u64::from(byte)]),
     }
 }
 
 fn report(status: CommandStatus) -> Told {
-    let outcome = status.status;
-    three(
+    let CommandStatus {
+        tag,
+        residue,
+        status,
+    } = status;
+    Told::of(
         0,
-        status.tag as u64,
-        status.residue as u64,
-        outcome.number() as u64,
+        &[
+            u64::from(tag),
+            u64::from(residue),
+            u64::from(status.number()),
+        ],
     )
 }
 
-fn status_told(parse: StatusParse) -> Told {
-    let answer = parse.answer;
-    let signature = parse.signature;
+// `srd`
+pub(crate) fn read_status(bytes: &[u8]) -> Told {
+    let StatusParse { answer, signature } = CommandStatus::from_bytes(bytes);
     match answer {
         StatusAnswer::Block(status) => report(status),
         StatusAnswer::Refused(error) => status_error(error, signature),
     }
 }
 
-fn mapped_told(parse: StatusParse) -> Told {
-    let answer = parse.answer;
-    let signature = parse.signature;
+// `smp`
+pub(crate) fn map_status(bytes: &[u8]) -> Told {
+    let StatusParse { answer, signature } = CommandStatus::from_bytes(bytes);
     match answer {
-        StatusAnswer::Block(_) => none(0),
-        StatusAnswer::Refused(error) => operation_error(
-            UsbOperationError::from_status(error),
-            signature,
-        ),
-    }
-}
-
-// `crd`, `srd`, `smp`, `sto`
-pub(crate) fn read(name: u64, bytes: &[u8]) -> Told {
-    match name {
-        CRD => command_told(CommandBlock::from_bytes(bytes)),
-        SRD => status_told(CommandStatus::from_bytes(bytes)),
-        SMP => mapped_told(CommandStatus::from_bytes(bytes)),
-        STO => replies::media(bytes),
-        _ => outside(),
+        StatusAnswer::Block(_) => Told::of(0, &[]),
+        StatusAnswer::Refused(error) => {
+            operation_error(UsbOperationError::from_status(error), signature)
+        }
     }
 }
 
 fn written(answer: Written) -> Told {
     match answer {
-        Written::Bytes(n) => one(0, n as u64),
-        Written::TooShort => none(answer.number() as u64),
+        Written::Bytes(n) => Told::of(0, &[n as u64]),
+        Written::TooShort => Told::of(answer.number(), &[]),
     }
 }
 
-fn put_built(built: Built, room: &mut [u8]) -> Told {
-    match built {
-        Built::Block(block) => written(block.to_bytes(room)),
-        Built::Nothing => outside(),
-    }
+// `cwr`
+pub(crate) fn write_command(block: CommandBlock, room: &mut [u8]) -> Told {
+    written(block.to_bytes(room))
 }
 
-fn put_parsed(parse: CommandParse, room: &mut [u8]) -> Told {
-    let answer = parse.answer;
-    let signature = parse.signature;
+// `cnv`
+pub(crate) fn convert_command(bytes: &[u8], room: &mut [u8]) -> Told {
+    let CommandParse { answer, signature } = CommandBlock::from_bytes(bytes);
     match answer {
         CommandAnswer::Block(block) => written(block.to_bytes(room)),
         CommandAnswer::Refused(error) => command_error(error, signature),
     }
 }
 
-fn put_report(tag: u32, residue: u32, byte: u8, room: &mut [u8]) -> Told {
-    let StatusRead::Known(status) = Status::from_number(byte) else {
-        return outside();
+// TAG RESIDUE STATUS
+pub(crate) fn status(tokens: &mut Tokens) -> Option<CommandStatus> {
+    let tag = tokens.u32()?;
+    let residue = tokens.u32()?;
+    let StatusRead::Known(status) = Status::from_number(tokens.u8()?) else {
+        return None;
     };
-    let report = CommandStatus {
+    Some(CommandStatus {
         tag,
         residue,
         status,
-    };
-    written(report.to_bytes(room))
+    })
 }
 
-fn put(asked: Asked, bytes: &[u8], room: &mut [u8]) -> Told {
-    let call = asked.call;
-    match call {
-        CWR => put_built(command(asked), room),
-        CNV => put_parsed(CommandBlock::from_bytes(bytes), room),
-        _ => put_report(as_u32(asked.a), as_u32(asked.b), as_u8(asked.c), room),
-    }
-}
-
-// `cwr`, `cnv`, `swr`
-pub(crate) fn write(asked: Asked, bytes: &[u8], room: &mut [u8]) -> Told {
-    let n = within(asked.room, room);
-    put(asked, bytes, &mut room[..n])
+// `swr`
+pub(crate) fn write_status(status: CommandStatus, room: &mut [u8]) -> Told {
+    written(status.to_bytes(room))
 }

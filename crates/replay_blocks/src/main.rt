@@ -6,91 +6,108 @@
 mod blocks;
 mod commands;
 
-use replay_answers::out::{flush, line_with_room};
-use replay_answers::told::{Answer, outside, plain};
-use replay_lines::asked::{Asked, ask};
-use replay_lines::buffer::between;
-use replay_lines::data::fill;
-use replay_lines::input::{next_line, start};
-use replay_lines::line::as_u8;
-use replay_lines::names::{
-    CAP, CHP, CNV, COD, CRD, CWR, DIR, FID, FIN, IDX, RST, SEC, SMP, SRD, STA, STO, SWR,
-};
+use protocol_codes::StorageIndex;
+use replay_answers::answer::{Answer, print_line};
+use replay_answers::out::Output;
+use replay_answers::told::Told;
+use replay_answers::values::storage;
+use replay_lines::buffer::{first, first_mut};
+use replay_lines::data::LEN;
+use replay_lines::input::Input;
+use replay_lines::names::Call;
+use replay_lines::tokens::Tokens;
 use replay_replies::{numbers, replies};
-use std::io::{Read, Result, Write};
+use std::io::{Result, Write};
 
-fn answer(asked: Asked, bytes: &[u8], room: &mut [u8]) -> Answer {
-    let call = asked.call;
-    if !asked.ok {
-        return plain(outside());
-    }
+fn on_number(call: Call, n: u8) -> Option<Told> {
     match call {
-        DIR | COD | STA | RST | IDX => plain(numbers::read(call, as_u8(asked.a))),
-        SEC => plain(replies::sectors(asked.a as usize)),
-        CRD | SRD | SMP | STO => plain(blocks::read(call, bytes)),
-        CWR | CNV | SWR => plain(blocks::write(asked, bytes, room)),
-        CHP | FID | FIN | CAP => replies::read(call, bytes),
-        _ => plain(outside()),
+        Call::Direction => Some(numbers::direction(n)),
+        Call::Code => Some(numbers::code(n)),
+        Call::Status => Some(numbers::status(n)),
+        Call::Reset => Some(numbers::reset(n)),
+        Call::Index => Some(storage(StorageIndex::from_number(n))),
+        _ => None,
     }
 }
 
-// The place in the output behind the line's answer.
-fn answer_line<W: Write>(
-    to: &mut W,
-    line: &[u8],
-    at: usize,
-    out: &mut [u8; 65536],
-    data: &mut [u8; 65536],
-    room: &mut [u8; 65536],
-) -> Result<usize> {
-    let asked = ask(line, data);
-    fill(room, asked.room, asked.fill);
-    let answer = answer(asked, between(data, 0, asked.len), room);
-    line_with_room(to, out, at, asked, answer, room)
+fn on_bytes(call: Call, bytes: &[u8]) -> Option<Answer> {
+    match call {
+        Call::ReadCommand => Some(Answer::from(blocks::read_command(bytes))),
+        Call::ReadStatus => Some(Answer::from(blocks::read_status(bytes))),
+        Call::MapStatus => Some(Answer::from(blocks::map_status(bytes))),
+        Call::Storage => Some(Answer::from(replies::media(bytes)?)),
+        Call::ChipInfo => replies::chip_info(bytes),
+        Call::FlashId => replies::flash_id(bytes),
+        Call::FlashInfo => replies::flash_info(bytes),
+        Call::Capability => replies::capability(bytes),
+        _ => None,
+    }
 }
 
-// A proved loop has to end, and nothing says that the input does: no run uses up so many turns.
-fn run<R: Read, W: Write>(
-    from: &mut R,
-    to: &mut W,
-    block: &mut [u8; 65536],
-    line: &mut [u8; 4096],
-    out: &mut [u8; 65536],
-    data: &mut [u8; 65536],
-    room: &mut [u8; 65536],
-) -> Result<()> {
-    let mut at = 0;
-    let mut input = start();
-    for _ in 0..u64::MAX {
-        input = next_line(from, block, line, input);
-        if input.is_over {
-            break;
+// `cwr`, `cnv`, `swr`
+fn write(call: Call, mut tokens: Tokens, data: &mut [u8], room: &mut [u8]) -> Option<Answer> {
+    let len = tokens.room(room)?;
+    let room = first_mut(len, room);
+    let told = match call {
+        Call::WriteCommand => {
+            let block = commands::command(&mut tokens)?;
+            tokens.end()?;
+            blocks::write_command(block, room)
         }
-        at = answer_line(
-            to,
-            between(line, 0, input.line_length(4096)),
-            at,
-            out,
-            data,
-            room,
-        )?;
+        Call::ConvertCommand => {
+            let n = tokens.data(LEN, data)?;
+            tokens.end()?;
+            blocks::convert_command(first(n, data), room)
+        }
+        _ => {
+            let status = blocks::status(&mut tokens)?;
+            tokens.end()?;
+            blocks::write_status(status, room)
+        }
+    };
+    Some(Answer::from(told).with_room(len))
+}
+
+// The line read whole, and its answer.
+fn answer(line: &[u8], data: &mut [u8], room: &mut [u8]) -> Option<Answer> {
+    let mut tokens = Tokens::new(line);
+    let call = tokens.call()?;
+    match call {
+        Call::Direction | Call::Code | Call::Status | Call::Reset | Call::Index => {
+            let n = tokens.u8()?;
+            tokens.end()?;
+            Some(Answer::from(on_number(call, n)?))
+        }
+        Call::Sectors => {
+            let length = tokens.at_most(usize::MAX)?;
+            tokens.end()?;
+            Some(Answer::from(replies::sectors(length)))
+        }
+        Call::WriteCommand | Call::ConvertCommand | Call::WriteStatus => {
+            write(call, tokens, data, room)
+        }
+        _ => {
+            let n = tokens.data(LEN, data)?;
+            tokens.end()?;
+            on_bytes(call, first(n, data))
+        }
     }
-    flush(to, out, at)
 }
 
 fn main(rt: HostRuntime) -> Result<()> {
     let mut block = [0u8; 65536];
     let mut line = [0u8; 4096];
-    let mut out = [0u8; 65536];
+    let mut buffer = [0u8; 65536];
     let mut data = [0u8; 65536];
     let mut room = [0u8; 65536];
-    run(
-        &mut rt.stdin(),
-        &mut rt.stdout(),
-        &mut block,
-        &mut line,
-        &mut out,
-        &mut data,
-        &mut room,
-    )
+    let mut input = Input::new(rt.stdin(), &mut block);
+    let mut out = Output::new(rt.stdout(), &mut buffer);
+    // a proved loop has to end, and nothing says that the input does: no run uses up so many turns
+    for _ in 0..u64::MAX {
+        let Some(line) = input.next_line(&mut line) else {
+            break;
+        };
+        print_line(&mut out, answer(line, &mut data, &mut room), &room)?;
+    }
+    out.flush()
 }

@@ -2,169 +2,114 @@
 
 #![tactic(auto)]
 
+mod dealt;
 mod printed;
 
-use deck::bench::{Bench, DeckStep};
-use deck::verdict::Verdict;
-use operation_finish::Beside;
+use dealt::{BLOCK, block_bytes};
+use deck::bench::{Bench, BenchStart, DeckStep};
 use printed::{block, device};
-use replay_answers::out::{end_line, flush, text};
-use replay_lines::asked::{Asked, ask};
-use replay_lines::buffer::between;
-use replay_lines::input::{next_line, start};
-use replay_lines::names::{BLK, DCK, DEV};
-use std::io::{Read, Result, Write};
+use replay_answers::out::Output;
+use replay_lines::buffer::first;
+use replay_lines::input::Input;
+use replay_lines::names::Call;
+use replay_lines::tokens::Tokens;
+use std::io::{Result, Write};
 
-const BLOCK: usize = 512;
-
-// The place in the output, whether the deck takes another block, whether the line at hand has an answer, and the bench with what its last block
-// came to.
-#[derive(Clone, Copy)]
-struct World {
-    at: usize,
+// The bench, whether its deck takes another block, and the buffers that its flash and its store stand in.
+#[derive(Drop)]
+struct Table<'a> {
+    bench: Bench,
     is_open: bool,
-    is_told: bool,
-    step: DeckStep,
+    flash: &'a mut [u8],
+    store: &'a mut [u8],
 }
 
-// `dck`: before the first block, as if one had been turned away with the number that the bench started with.
-fn fresh(flash: &mut [u8; 65536], store: &[u8; 65536]) -> DeckStep {
-    let start = Bench::new(flash, store);
-    let answer = start.answer;
-    let result = answer.result;
-    let verdict = Verdict::Refused(result.number());
-    let beside = Beside::blank([0, 0, 0, 0]);
-    let bench = start.bench;
-    DeckStep {
-        verdict,
-        beside,
-        bench,
-    }
+// The store is only read: as a `&` beside the flash of one table the borrow check has no rule for it yet.
+fn fresh(flash: &mut [u8], store: &mut [u8]) -> BenchStart {
+    Bench::new(flash, store)
 }
 
-// `blk`: a short block is the last.
-fn deal(mut world: World, block: &[u8], flash: &mut [u8; 65536], store: &mut [u8; 65536]) -> World {
-    let bench = world.step.bench;
-    world.is_told = world.is_open;
-    if world.is_open {
-        world.step = bench.deal(block, flash, store);
-        world.is_open = block.len() == BLOCK;
-    }
-    world
-}
-
-fn answer(
-    asked: Asked,
-    mut world: World,
-    bytes: &[u8],
-    flash: &mut [u8; 65536],
-    store: &mut [u8; 65536],
-) -> World {
-    let call = asked.call;
-    world.is_told = asked.ok;
-    if call == DCK {
-        world.step = fresh(flash, store);
-        world.is_open = true;
-    }
-    if call == BLK {
-        return deal(world, bytes, flash, store);
-    }
-    world
-}
-
-// What a bench started with.
-fn number_of(step: DeckStep) -> u8 {
-    let verdict = step.verdict;
-    verdict.number()
-}
-
-fn print(out: &mut [u8], call: u64, world: World, flash: &[u8], store: &[u8]) -> usize {
-    if !world.is_told {
-        return text(out, world.at, b"outside");
-    }
-    match call {
-        BLK => block(out, world.at, world.step),
-        DCK => device(
-            out,
-            world.at,
-            number_of(world.step),
-            world.step.bench,
+impl<'a> Table<'a> {
+    // A fresh bench, with no deck yet.
+    fn new(flash: &'a mut [u8], store: &'a mut [u8]) -> Table<'a> {
+        let BenchStart { answer: _, bench } = fresh(flash, store);
+        Table {
+            bench,
+            is_open: false,
             flash,
             store,
-        ),
-        DEV => device(out, world.at, 0, world.step.bench, flash, store),
-        _ => text(out, world.at, b"outside"),
-    }
-}
-
-fn answer_line<W: Write>(
-    to: &mut W,
-    line: &[u8],
-    world: World,
-    out: &mut [u8; 65536],
-    data: &mut [u8; 512],
-    flash: &mut [u8; 65536],
-    store: &mut [u8; 65536],
-) -> Result<World> {
-    let asked = ask(line, data);
-    let mut done = answer(asked, world, between(data, 0, asked.len), flash, store);
-    let next = print(out, asked.call, done, flash, store);
-    done.at = end_line(to, out, next)?;
-    Ok(done)
-}
-
-// A proved loop has to end, and nothing says that the input does: no run uses up so many turns.
-fn run<R: Read, W: Write>(
-    from: &mut R,
-    to: &mut W,
-    chunk: &mut [u8; 65536],
-    line: &mut [u8; 4096],
-    out: &mut [u8; 65536],
-    data: &mut [u8; 512],
-    flash: &mut [u8; 65536],
-    store: &mut [u8; 65536],
-) -> Result<()> {
-    let step = fresh(flash, store);
-    let mut world = World {
-        at: 0,
-        is_open: false,
-        is_told: false,
-        step,
-    };
-    let mut input = start();
-    for _ in 0..u64::MAX {
-        input = next_line(from, chunk, line, input);
-        if input.is_over {
-            break;
         }
-        world = answer_line(
-            to,
-            between(line, 0, input.line_length(4096)),
-            world,
-            out,
-            data,
-            flash,
-            store,
-        )?;
     }
-    flush(to, out, world.at)
+
+    // `dck`: the number that the bench started with.
+    fn begin(&mut self) -> u8 {
+        let start = fresh(self.flash, self.store);
+        self.bench = start.bench;
+        self.is_open = true;
+        start.answer.result.number()
+    }
+
+    // `blk`: a short block is the last.
+    fn deal(&mut self, block: &[u8]) -> Option<DeckStep> {
+        if !self.is_open {
+            return None;
+        }
+        let step = self.bench.deal(block, self.flash, self.store);
+        self.bench = step.bench;
+        self.is_open = block.len() == BLOCK;
+        Some(step)
+    }
+
+    // The number and the device, where the line ends there.
+    fn print_device<W: Write>(&self, out: &mut W, number: u8, rest: Tokens) -> Result<()> {
+        match rest.end() {
+            Some(()) => device(out, number, self.bench.device, self.flash, self.store),
+            None => out.write_all(b"outside"),
+        }
+    }
+}
+
+fn answer<W: Write>(
+    out: &mut W,
+    line: &[u8],
+    table: &mut Table,
+    data: &mut [u8; 512],
+) -> Result<()> {
+    let mut tokens = Tokens::new(line);
+    match tokens.call() {
+        Some(Call::FreshDeck) => {
+            let number = table.begin();
+            table.print_device(out, number, tokens)
+        }
+        Some(Call::Block) => {
+            let len = block_bytes(tokens, data);
+            match table.deal(first(len, data)) {
+                Some(step) => block(out, step),
+                None => out.write_all(b"outside"),
+            }
+        }
+        Some(Call::DeckDevice) => table.print_device(out, 0, tokens),
+        _ => out.write_all(b"outside"),
+    }
 }
 
 fn main(rt: HostRuntime) -> Result<()> {
     let mut chunk = [0u8; 65536];
     let mut line = [0u8; 4096];
-    let mut out = [0u8; 65536];
+    let mut buffer = [0u8; 65536];
     let mut data = [0u8; 512];
     let mut flash = [0u8; 65536];
     let mut store = [0u8; 65536];
-    run(
-        &mut rt.stdin(),
-        &mut rt.stdout(),
-        &mut chunk,
-        &mut line,
-        &mut out,
-        &mut data,
-        &mut flash,
-        &mut store,
-    )
+    let mut table = Table::new(&mut flash, &mut store);
+    let mut input = Input::new(rt.stdin(), &mut chunk);
+    let mut out = Output::new(rt.stdout(), &mut buffer);
+    // a proved loop has to end, and nothing says that the input does: no run uses up so many turns
+    for _ in 0..u64::MAX {
+        let Some(line) = input.next_line(&mut line) else {
+            break;
+        };
+        answer(&mut out, line, &mut table, &mut data)?;
+        out.write_all(b"\n")?;
+    }
+    out.flush()
 }

@@ -1,74 +1,58 @@
 // The answers: a block's line, or the bench's number and its device.
-use deck::bench::{Bench, DeckStep};
+use deck::bench::DeckStep;
 use deck::verdict::Verdict;
+use mock::device::MockState;
 use operation_finish::{Beside, SectorTransfer, UsbReply};
-use replay_answers::out::{decimal, hex, text, value};
+use replay_answers::out::hex;
+use std::io::{Result, Write};
 
 // The bytes moved; of a short transfer, a slash and the bytes asked stand behind them.
-fn transfer(out: &mut [u8], at: usize, transfer: SectorTransfer) -> usize {
+fn transfer<W: Write>(out: &mut W, transfer: SectorTransfer) -> Result<()> {
     match transfer {
-        SectorTransfer::Whole(moved) => return decimal(out, at, moved.0 as u64),
+        SectorTransfer::Whole(moved) => {
+            let moved = moved.0;
+            write!(out, "{moved}")
+        }
         SectorTransfer::Short(short) => {
-            let moved = decimal(out, at, short.moved.0 as u64);
-            let slash = text(out, moved, b"/");
-            return decimal(out, slash, short.asked.0 as u64);
+            let moved = short.moved.0;
+            let asked = short.asked.0;
+            write!(out, "{moved}/{asked}")
         }
     }
 }
 
 // Bytes for chip info, flash id, flash info and capability, a count for sectors, and nothing else.
-fn reply(out: &mut [u8], at: usize, reply: UsbReply, beside: Beside) -> usize {
+fn reply<W: Write>(out: &mut W, reply: UsbReply, beside: Beside) -> Result<()> {
     match reply {
-        UsbReply::ChipInfo => {
-            let bytes = beside.chip_info.0;
-            return hex(out, at, &bytes);
-        }
-        UsbReply::FlashId => {
-            let bytes = beside.flash_id.0;
-            return hex(out, at, &bytes);
-        }
-        UsbReply::FlashInfo => {
-            let bytes = beside.flash_info.0;
-            return hex(out, at, &bytes);
-        }
-        UsbReply::Capability => {
-            let bytes = beside.capability.0;
-            return hex(out, at, &bytes);
-        }
-        UsbReply::Sectors(came) => return transfer(out, at, came),
-        _ => return text(out, at, b"-"),
-    }
-}
-
-fn verdict(out: &mut [u8], at: usize, verdict: Verdict, beside: Beside) -> usize {
-    match verdict {
-        Verdict::Done(done) => {
-            let next = text(out, at, b" 0 ");
-            return reply(out, next, done, beside);
-        }
-        Verdict::Refused(number) => {
-            let next = value(out, at, number as u64);
-            return text(out, next, b" -");
-        }
+        UsbReply::ChipInfo => hex(out, &beside.chip_info.0),
+        UsbReply::FlashId => hex(out, &beside.flash_id.0),
+        UsbReply::FlashInfo => hex(out, &beside.flash_info.0),
+        UsbReply::Capability => hex(out, &beside.capability.0),
+        UsbReply::Sectors(came) => transfer(out, came),
+        _ => out.write_all(b"-"),
     }
 }
 
 // The line of the block that was dealt last.
-pub(crate) fn block(out: &mut [u8], at: usize, step: DeckStep) -> usize {
-    let came = step.verdict;
-    let next = decimal(out, at, step.bench.number);
-    verdict(out, next, came, step.beside)
+pub(crate) fn block<W: Write>(out: &mut W, step: DeckStep) -> Result<()> {
+    let block = step.bench.number;
+    match step.verdict {
+        Verdict::Done(done) => {
+            write!(out, "{block} 0 ")?;
+            reply(out, done, step.beside)
+        }
+        Verdict::Refused(number) => write!(out, "{block} {number} -"),
+    }
 }
 
 // The number and the device.
-pub(crate) fn device(
-    out: &mut [u8],
-    at: usize,
+pub(crate) fn device<W: Write>(
+    out: &mut W,
     number: u8,
-    bench: Bench,
+    state: MockState,
     flash: &[u8],
     store: &[u8],
-) -> usize {
-    let next = decimal(out, at, number as u64);
-    replay_shown::device(out, next, bench.device, flash, store)
+) -> Result<()> {
+    write!(out, "{number}")?;
+    replay_shown::device(out, state, flash, store)
 }

@@ -4,279 +4,228 @@ use mock::device::{MockState, MockStep};
 use mock_areas::AreaFound;
 use mock_base::error::{MockAnswer, MockResult, MockTransportError};
 use mock_table::session::LastReset;
-use replay_answers::out::value;
+use replay_answers::answer::{Answer, Tail};
 use replay_answers::refusals::command_error;
-use replay_answers::told::{Answer, Tail, Told, none, one, outside, plain, three, two, with_tail};
-use replay_answers::values::widened;
-use replay_lines::asked::{Asked, FLASH};
-use replay_lines::buffer::{between, copy, within};
-use replay_lines::data::fill;
-use replay_lines::line::{after, as_u8, as_u16};
-use replay_lines::names::{ARE, BRD, BWR, CTL, DVC, DVD, DVN};
+use replay_answers::told::Told;
+use replay_lines::buffer::{behind, copy, first, first_mut};
+use replay_lines::data::LEN;
+use replay_lines::names::Call;
+use replay_lines::tokens::Tokens;
 
-// The current device: whether there is one, its record, and the lengths of its flash and store, which stand in buffers of their own.
+// A device's record, and the length of its flash.
 #[derive(Clone, Copy)]
 pub struct Device {
-    pub is_there: bool,
     pub state: MockState,
     pub flash: usize,
-    pub store: usize,
 }
 
-#[derive(Clone, Copy)]
-pub struct Stood {
-    pub answer: Answer,
-    pub device: Device,
-}
-
-fn with_answer(answer: Answer, device: Device) -> Stood {
-    Stood { answer, device }
-}
-
-pub fn device_of(is_there: bool, state: MockState, flash: usize) -> Device {
-    Device {
-        is_there,
-        state,
-        flash,
-        store: state.store_length,
-    }
-}
-
-pub fn no_device() -> Device {
-    let made = MockState::new(MockDeviceConfig::default(), b"", b"");
-    device_of(false, made.state, 0)
-}
-
-// 56 is followed by the inner number and its values.
-fn inner(outer: u64, told: Told) -> Told {
-    let v = told.values;
-    Told {
-        number: outer,
-        count: told.count.wrapping_add(1),
-        values: [told.number, v[0], v[1], v[2], v[3], 0, 0, 0, 0],
-    }
+// The current device, where there is one, and the buffers that its flash and its store stand in.
+#[derive(Drop)]
+pub struct Devices<'a> {
+    pub current: Option<Device>,
+    pub flash: &'a mut [u8],
+    pub store: &'a mut [u8],
 }
 
 pub fn refusal(error: MockTransportError, signature: [u8; 4]) -> Told {
-    let number = error.number() as u64;
+    let number = error.number();
     match error {
-        MockTransportError::InvalidTransferLength { expected, actual } => two(
-            number,
-            expected as u64,
-            actual as u64,
-        ),
+        MockTransportError::InvalidTransferLength { expected, actual } => {
+            Told::of(number, &[expected as u64, actual as u64])
+        }
         MockTransportError::UnsupportedControl {
             request_type,
             request,
             value,
-        } => three(number, request_type as u64, request as u64, value as u64),
-        MockTransportError::InvalidReset(opcode) => one(number, opcode as u64),
-        MockTransportError::UnknownCommand(code) => one(number, code.number() as u64),
-        MockTransportError::CommandBlockError(e) => inner(number, command_error(e, signature)),
-        MockTransportError::FlashSize(n) => one(number, n as u64),
-        _ => none(number),
+        } => Told::of(
+            number,
+            &[
+                u64::from(request_type),
+                u64::from(request),
+                u64::from(value),
+            ],
+        ),
+        MockTransportError::InvalidReset(opcode) => Told::of(number, &[u64::from(opcode)]),
+        MockTransportError::UnknownCommand(code) => Told::of(number, &[u64::from(code.number())]),
+        // the inner number and its values
+        MockTransportError::CommandBlockError(inner) => {
+            let told = command_error(inner, signature);
+            told.behind(number, u64::from(told.number))
+        }
+        MockTransportError::FlashSize(n) => Told::of(number, &[n as u64]),
+        _ => Told::of(number, &[]),
     }
 }
 
 fn told_of(answer: MockAnswer) -> Told {
-    let result = answer.result;
-    let signature = answer.signature;
-    match result {
-        MockResult::Done => none(0),
-        MockResult::Refused(error) => refusal(error, signature),
+    match answer.result {
+        MockResult::Done => Told::of(0, &[]),
+        MockResult::Refused(error) => refusal(error, answer.signature),
     }
 }
 
-// A block size of 0 is told, and the device is there all the same.
-fn is_made(number: u64) -> bool {
-    match number {
-        0 | 62 => true,
-        _ => false,
-    }
-}
-
-fn created(made: MockStep, flash: usize) -> Stood {
-    let told = told_of(made.answer);
-    with_answer(
-        plain(told),
-        device_of(is_made(told.number), made.state, flash),
-    )
-}
-
-fn made_by(call: u64, config: MockDeviceConfig, flash: &[u8], store: &[u8]) -> MockStep {
-    if call == DVN {
-        return MockState::new_nor(config, flash, store);
-    }
-    MockState::new(config, flash, store)
-}
-
-fn started(asked: Asked, config: MockDeviceConfig, flash: &[u8], n: usize, store: &[u8]) -> Stood {
-    let m = asked.a as usize;
-    let made = made_by(
-        asked.call,
-        config,
-        between(flash, 0, n),
-        between(store, 0, m),
-    );
-    created(made, n)
-}
-
-// `dvd`
-fn default(asked: Asked, flash: &mut [u8], store: &[u8]) -> Stood {
-    let n = MockDeviceConfig::default_sectors() * 512;
-    fill(flash, n, 255);
-    started(asked, MockDeviceConfig::default(), flash, n, store)
-}
-
-fn five(bytes: &[u8]) -> [u8; 5] {
-    let mut array = [0u8; 5];
-    copy(bytes, &mut array);
-    array
-}
-
-fn eight(bytes: &[u8]) -> [u8; 8] {
-    let mut array = [0u8; 8];
-    copy(bytes, &mut array);
-    array
-}
-
-// A configuration's arrays stand one behind the other.
-fn config_of(block_size_sectors: u16, bytes: &[u8]) -> MockDeviceConfig {
-    let chip_info = widened(between(bytes, 0, 16));
-    let flash_id = five(between(bytes, 16, 21));
-    let capability = eight(between(bytes, 21, 29));
-    let flash_info_extra = five(between(bytes, 29, FLASH));
-    MockDeviceConfig {
+// BLOCKSIZE CHIP FLASHID CAPABILITY EXTRA
+fn configuration(tokens: &mut Tokens) -> Option<MockDeviceConfig> {
+    let block_size_sectors = tokens.u16()?;
+    let chip_info = tokens.array()?;
+    let flash_id = tokens.array()?;
+    let capability = tokens.array()?;
+    let flash_info_extra = tokens.array()?;
+    Some(MockDeviceConfig {
         chip_info,
         flash_id,
         capability,
         block_size_sectors,
         flash_info_extra,
+    })
+}
+
+pub fn last_reset(last: LastReset) -> Told {
+    match last {
+        LastReset::None => Told::of(0, &[0]),
+        LastReset::Some(opcode) => Told::of(0, &[1, u64::from(opcode.number())]),
     }
 }
 
-// `dvc`, `dvn`
-fn configure(asked: Asked, bytes: &[u8], flash: &mut [u8], store: &[u8]) -> Stood {
-    let given = between(bytes, FLASH, bytes.len());
-    copy(given, flash);
-    started(
-        asked,
-        config_of(as_u16(asked.b), bytes),
-        flash,
-        given.len(),
-        store,
-    )
-}
-
-fn start(asked: Asked, bytes: &[u8], flash: &mut [u8], store: &[u8]) -> Stood {
-    if !asked.ok {
-        return with_answer(plain(outside()), no_device());
+impl Devices<'_> {
+    // A block size of 0 is told, and the device is there all the same.
+    fn made(&mut self, made: MockStep, flash: usize) -> Answer {
+        let told = told_of(made.answer);
+        if told.number == 0 || told.number == 62 {
+            self.current = Some(Device {
+                state: made.state,
+                flash,
+            });
+        }
+        Answer::from(told)
     }
-    if asked.call == DVD {
-        return default(asked, flash, store);
+
+    // `dvd`
+    fn start_default(&mut self, mut tokens: Tokens) -> Option<Answer> {
+        let store = tokens.at_most(LEN)?;
+        tokens.end()?;
+        let flash = MockDeviceConfig::default_sectors() * 512;
+        first_mut(flash, self.flash).fill(255);
+        let made = MockState::new(
+            MockDeviceConfig::default(),
+            first_mut(flash, self.flash),
+            first_mut(store, self.store),
+        );
+        Some(self.made(made, flash))
     }
-    configure(asked, bytes, flash, store)
-}
 
-fn called(step: MockStep, flash: usize) -> Stood {
-    with_answer(
-        plain(told_of(step.answer)),
-        device_of(true, step.state, flash),
-    )
-}
+    // `dvc`, `dvn`: the STORE, and a configuration with its FLASH
+    fn start_configured(
+        &mut self,
+        call: Call,
+        mut tokens: Tokens,
+        data: &mut [u8],
+    ) -> Option<Answer> {
+        let store = tokens.at_most(LEN)?;
+        let config = configuration(&mut tokens)?;
+        let flash = tokens.data(LEN, data)?;
+        tokens.end()?;
+        copy(first(flash, data), self.flash);
+        let flash_bytes = first_mut(flash, self.flash);
+        let store_bytes = first_mut(store, self.store);
+        let made = if call == Call::StartNor {
+            MockState::new_nor(config, flash_bytes, store_bytes)
+        } else {
+            MockState::new(config, flash_bytes, store_bytes)
+        };
+        Some(self.made(made, flash))
+    }
 
-// `bwr`
-fn write_bulk(device: Device, bytes: &[u8], flash: &mut [u8]) -> Stood {
-    let state = device.state;
-    let n = within(device.flash, flash);
-    called(state.write_bulk(&mut flash[..n], bytes), device.flash)
-}
+    // The device as a call left it, and what the call is told.
+    fn called(&mut self, step: MockStep, flash: usize) -> Answer {
+        self.current = Some(Device {
+            state: step.state,
+            flash,
+        });
+        Answer::from(told_of(step.answer))
+    }
 
-// `brd`
-fn read_bulk(device: Device, flash: &[u8], room: &mut [u8], len: usize) -> Stood {
-    let state = device.state;
-    let n = within(len, room);
-    called(
-        state.read_bulk(between(flash, 0, device.flash), &mut room[..n]),
-        device.flash,
-    )
-}
+    // `bwr`
+    fn write_bulk(&mut self, mut tokens: Tokens, data: &mut [u8]) -> Option<Answer> {
+        let Device { state, flash } = self.current?;
+        let len = tokens.data(LEN, data)?;
+        tokens.end()?;
+        let step = state.write_bulk(first_mut(flash, self.flash), first(len, data));
+        Some(self.called(step, flash))
+    }
 
-// `ctl`
-fn write_control(device: Device, asked: Asked, bytes: &[u8], store: &mut [u8]) -> Stood {
-    let state = device.state;
-    let n = within(device.store, store);
-    let step = state.write_control(
-        as_u8(asked.a),
-        as_u8(asked.b),
-        as_u16(asked.c),
-        as_u16(asked.d),
-        bytes,
-        &mut store[..n],
-    );
-    called(step, device.flash)
-}
+    // `brd`
+    fn read_bulk(&mut self, mut tokens: Tokens, room: &mut [u8]) -> Option<Answer> {
+        let Device { state, flash } = self.current?;
+        let len = tokens.room(room)?;
+        tokens.end()?;
+        let step = state.read_bulk(first(flash, self.flash), first_mut(len, room));
+        Some(self.called(step, flash).with_room(len))
+    }
 
-// `are`
-fn area(found: AreaFound, store: &[u8], room: &mut [u8]) -> Answer {
-    match found {
-        AreaFound::NotHeld => plain(one(0, 0)),
-        AreaFound::Held { start, length } => {
-            copy(between(store, start, after(start, length)), room);
-            with_tail(one(0, 1), Tail::Room(length))
+    // `ctl`: TYPE REQUEST VALUE INDEX DATA
+    fn write_control(&mut self, mut tokens: Tokens, data: &mut [u8]) -> Option<Answer> {
+        let Device { state, flash } = self.current?;
+        let request_type = tokens.u8()?;
+        let request = tokens.u8()?;
+        let value = tokens.u16()?;
+        let index = tokens.u16()?;
+        let len = tokens.data(LEN, data)?;
+        tokens.end()?;
+        let step = state.write_control(
+            request_type,
+            request,
+            value,
+            index,
+            first(len, data),
+            first_mut(state.store_length, self.store),
+        );
+        Some(self.called(step, flash))
+    }
+
+    // `are`
+    fn area(&self, mut tokens: Tokens, room: &mut [u8]) -> Option<Answer> {
+        let Device { state, flash: _ } = self.current?;
+        let number = tokens.u16()?;
+        tokens.end()?;
+        match state.maskrom_area(number) {
+            AreaFound::NotHeld => Some(Answer::from(Told::of(0, &[0]))),
+            AreaFound::Held { start, length } => {
+                copy(first(length, behind(start, self.store)), room);
+                Some(Answer::with_tail(Told::of(0, &[1]), Tail::Room(length)))
+            }
         }
     }
-}
 
-pub fn reset_told(last: LastReset) -> Told {
-    match last {
-        LastReset::None => one(0, 0),
-        LastReset::Some(opcode) => two(0, 1, opcode.number() as u64),
+    // `lst`
+    fn last_reset(&self, tokens: Tokens) -> Option<Answer> {
+        let Device { state, flash: _ } = self.current?;
+        tokens.end()?;
+        Some(Answer::from(last_reset(state.last_reset())))
     }
-}
 
-// `are`, `lst`
-fn looked(call: u64, number: u16, device: Device, store: &[u8], room: &mut [u8]) -> Answer {
-    let state = device.state;
-    if call == ARE {
-        return area(state.maskrom_area(number), store, room);
-    }
-    plain(reset_told(state.last_reset()))
-}
-
-fn asked_of(
-    asked: Asked,
-    device: Device,
-    bytes: &[u8],
-    room: &mut [u8],
-    flash: &mut [u8],
-    store: &mut [u8],
-) -> Stood {
-    let call = asked.call;
-    match call {
-        BWR => write_bulk(device, bytes, flash),
-        BRD => read_bulk(device, flash, room, asked.room),
-        CTL => write_control(device, asked, bytes, store),
-        _ => with_answer(looked(call, as_u16(asked.a), device, store, room), device),
-    }
-}
-
-pub fn answer(
-    asked: Asked,
-    device: Device,
-    bytes: &[u8],
-    room: &mut [u8],
-    flash: &mut [u8; 65536],
-    store: &mut [u8; 65536],
-) -> Stood {
-    let call = asked.call;
-    match call {
-        DVD | DVC | DVN => start(asked, bytes, flash, store),
-        _ => {
-            if !device.is_there || !asked.ok {
-                return with_answer(plain(outside()), device);
+    pub fn answer(
+        &mut self,
+        call: Call,
+        tokens: Tokens,
+        data: &mut [u8],
+        room: &mut [u8],
+    ) -> Option<Answer> {
+        match call {
+            Call::StartDefault => {
+                self.current = None;
+                self.start_default(tokens)
             }
-            asked_of(asked, device, bytes, room, flash, store)
+            Call::StartConfigured | Call::StartNor => {
+                self.current = None;
+                self.start_configured(call, tokens, data)
+            }
+            Call::WriteBulk => self.write_bulk(tokens, data),
+            Call::ReadBulk => self.read_bulk(tokens, room),
+            Call::WriteControl => self.write_control(tokens, data),
+            Call::Area => self.area(tokens, room),
+            Call::LastReset => self.last_reset(tokens),
+            _ => None,
         }
     }
 }

@@ -1,34 +1,31 @@
-// Parts of lent buffers, and bytes put into them: what does not fit is left out, so that no caller owes a bound.
-ghost use Rattle.replay_lines.specs.Counts.{IsPrefixLen};
+// Parts of lent buffers: what there is not is left out, so that no caller owes a bound.
+ghost use Rattle.std.specs.Prelude.{◌≤◌, length};
 
-// `n`, or the slice's length where that is less: a count of its bytes, so that `&s[..n]` owes nothing.
-pub fn within(n: usize, s: &[u8]) -> usize
-    ensures { IsPrefixLen result s.now }
+// The first `n` bytes.
+pub fn first(n: usize, s: &[u8]) -> &[u8] {
+    &s[..n.min(s.len())]
+}
+
+pub fn first_mut(n: usize, s: &mut [u8]) -> &mut [u8] {
+    let n = n.min(s.len());
+    &mut s[..n]
+}
+
+// What stands from `from` on.
+pub fn behind(from: usize, s: &[u8]) -> &[u8] {
+    &s[from.min(s.len())..]
+}
+
+pub fn behind_mut(from: usize, s: &mut [u8]) -> &mut [u8] {
+    let from = from.min(s.len());
+    &mut s[from..]
+}
+
+// As many bytes as both have: how many they are.
+pub fn copy(from: &[u8], into: &mut [u8]) -> usize
+    ensures { result ≤ length from.now }
 {
-    if n < s.len() { n } else { s.len() }
-}
-
-// What stands in a slice from `from` up to `to`, or what there is of it.
-pub fn between(s: &[u8], from: usize, to: usize) -> &[u8] {
-    let end = within(to, s);
-    if from <= end {
-        &s[from..end]
-    } else {
-        &s[end..]
-    }
-}
-
-pub fn put(out: &mut [u8], at: usize, byte: u8) -> usize {
-    if at < out.len() {
-        out[at] = byte;
-        return at + 1;
-    }
-    at
-}
-
-// As many bytes as both have.
-pub fn copy(from: &[u8], into: &mut [u8]) {
-    for i in 0..from.len() {
-        put(into, i, from[i]);
-    }
+    let n = from.len().min(into.len());
+    into[..n].copy_from_slice(&from[..n]);
+    n
 }

@@ -1,129 +1,127 @@
-// The four forms of DATA, into a lent buffer. The token's value is the number of bytes.
-use crate::buffer::put;
-use crate::line::{Token, U8, U32, after, byte_at, gap, number, refused};
+// The four forms of DATA, into a lent buffer.
+use crate::buffer::first_mut;
+use crate::tokens::Tokens;
 
-fn nibble_at(line: &[u8], at: usize) -> u8 {
-    let byte = byte_at(line, at);
-    let d = byte.wrapping_sub(b'0');
-    if d < 10 {
-        return d;
-    }
-    let d = byte.wrapping_sub(b'a');
-    if d < 6 {
-        return d + 10;
-    }
-    16
+// the most of a LEN, but of an image's
+pub const LEN: usize = 65536;
+
+// the most of the current upload's image
+pub const IMAGE: usize = 100000;
+
+// A form that is not spelled out, but grows from a number.
+#[derive(Clone, Copy, PartialEq, Eq)]
+pub enum Form {
+    Same,
+    Ramp,
+    Seeded,
 }
 
-fn pair(high: u8, low: u8) -> u8 {
-    high % 16 * 16 + low % 16
-}
-
-// A byte as two digits of hex.
-pub fn spelled_byte(line: &[u8], before: Token) -> Token {
-    let space = gap(line, before);
-    let high = nibble_at(line, space.at);
-    let low = nibble_at(line, after(space.at, 1));
-    Token {
-        value: pair(high, low) as u64,
-        at: after(space.at, 2),
-        ok: space.ok & ((high | low) < 16),
+fn nibble(digit: u8) -> Option<u8> {
+    match digit {
+        b'0'..=b'9' => Some(digit - b'0'),
+        b'a'..=b'f' => Some(digit - b'a' + 10),
+        _ => None,
     }
 }
 
-fn spelled(line: &[u8], start: Token, into: &mut [u8]) -> Token {
-    let mut at = start.at;
-    let mut n = 0;
-    while at < line.len() {
-        let high = nibble_at(line, at);
-        let low = nibble_at(line, after(at, 1));
-        if high > 15 || low > 15 {
-            break;
+fn ramp(part: &mut [u8], start: u8) {
+    let mut next = start % 251;
+    for place in part {
+        *place = next;
+        next = next.wrapping_add(1) % 251;
+    }
+}
+
+fn seeded(part: &mut [u8], seed: u32) {
+    let mut state = seed;
+    for place in part {
+        state = state.wrapping_mul(1664525).wrapping_add(1013904223);
+        let [high, _, _, _] = state.to_be_bytes();
+        *place = high;
+    }
+}
+
+impl Form {
+    pub fn of(letter: u8) -> Option<Form> {
+        match letter {
+            b'f' => Some(Form::Same),
+            b'r' => Some(Form::Ramp),
+            b's' => Some(Form::Seeded),
+            _ => None,
         }
-        n = put(into, n, pair(high, low));
-        at += 2;
     }
-    Token {
-        value: n as u64,
-        at,
-        ok: start.ok,
-    }
-}
 
-fn next_seeded(state: u32) -> u32 {
-    ((state as u64 * 1664525 + 1013904223) % 4294967296) as u32
-}
-
-// The state that the first byte is taken from: of `f` the byte itself, of `r` its place in the ramp, of `s` the seed moved on.
-fn first_state(form: u8, given: u32) -> u32 {
-    if form == b's' {
-        return next_seeded(given);
-    }
-    if form == b'r' {
-        return given % 251;
-    }
-    given
-}
-
-fn next_state(form: u8, state: u32) -> u32 {
-    if form == b's' {
-        return next_seeded(state);
-    }
-    if form == b'r' {
-        return (state % 251 + 1) % 251;
-    }
-    state
-}
-
-fn byte_of(form: u8, state: u32) -> u8 {
-    if form == b's' {
-        (state / 16777216) as u8
-    } else {
-        (state % 256) as u8
+    // Grows a part from this number, of which only a seed has more than its low byte.
+    pub fn grow(self, part: &mut [u8], given: u32) {
+        let [.., low] = given.to_be_bytes();
+        match self {
+            Form::Same => part.fill(low),
+            Form::Ramp => ramp(part, low),
+            Form::Seeded => seeded(part, given),
+        }
     }
 }
 
-fn grow(into: &mut [u8], n: usize, form: u8, given: u32) {
-    let mut state = first_state(form, given);
-    for i in 0..n {
-        put(into, i, byte_of(form, state));
-        state = next_state(form, state);
+impl Tokens<'_> {
+    // A byte as two digits of hex.
+    pub fn pair(&mut self) -> Option<u8> {
+        let mut behind = *self;
+        let high = nibble(behind.byte()?)?;
+        let low = nibble(behind.byte()?)?;
+        *self = behind;
+        Some(high << 4 | low)
     }
-}
 
-// The first `n` bytes are `byte`.
-pub fn fill(into: &mut [u8], n: usize, byte: u8) {
-    grow(into, n, b'f', byte as u32);
-}
-
-fn most_given(form: u8) -> u64 {
-    if form == b's' { U32 } else { U8 }
-}
-
-// `f`, `r` or `s` with a length and what it starts from.
-fn grown(line: &[u8], start: Token, form: u8, most: u64, into: &mut [u8]) -> Token {
-    let len = number(line, start, most);
-    let given = number(line, len, most_given(form));
-    grow(into, len.as_usize(), form, given.as_u32());
-    Token {
-        value: len.value,
-        at: given.at,
-        ok: given.ok,
+    // The bytes that are spelled out here, to the front of a lent buffer: how many they are, with those that it has no room for.
+    pub fn spelled(&mut self, into: &mut [u8]) -> usize {
+        let mut places = into.iter_mut();
+        let mut n = 0usize;
+        // a proved loop has to end, and no line has so many pairs
+        for _ in 0..usize::MAX {
+            let Some(byte) = self.pair() else {
+                break;
+            };
+            if let Some(place) = places.next() {
+                *place = byte;
+            }
+            n = n.wrapping_add(1);
+        }
+        n
     }
-}
 
-// DATA of at most `most` bytes.
-pub fn data(line: &[u8], before: Token, most: u64, into: &mut [u8]) -> Token {
-    let space = gap(line, before);
-    let form = byte_at(line, space.at);
-    let start = Token {
-        value: 0,
-        at: after(space.at, 1),
-        ok: space.ok,
-    };
-    match form {
-        b'x' => spelled(line, start, into),
-        b'f' | b'r' | b's' => grown(line, start, form, most, into),
-        _ => refused(start.at),
+    // OUTLEN FILL: the first OUTLEN bytes of a lent room are FILL. How many they are.
+    pub fn room(&mut self, room: &mut [u8]) -> Option<usize> {
+        let len = self.at_most(LEN)?;
+        let fill = self.u8()?;
+        first_mut(len, room).fill(fill);
+        Some(len)
+    }
+
+    // DATA of at most `most` bytes, or spelled out, to the front of a lent buffer: how many they are, with those that it has no room for.
+    pub fn data(&mut self, most: usize, into: &mut [u8]) -> Option<usize> {
+        self.gap()?;
+        let letter = self.byte()?;
+        if letter == b'x' {
+            return Some(self.spelled(into));
+        }
+        let form = Form::of(letter)?;
+        let len = self.at_most(most)?;
+        let given = if form == Form::Seeded {
+            self.u32()?
+        } else {
+            u32::from(self.u8()?)
+        };
+        form.grow(first_mut(len, into), given);
+        Some(len)
+    }
+
+    // DATA of exactly so many bytes.
+    pub fn array<const N: usize>(&mut self) -> Option<[u8; N]> {
+        let mut bytes = [0; N];
+        if self.data(LEN, &mut bytes)? == N {
+            Some(bytes)
+        } else {
+            None
+        }
     }
 }

@@ -1,103 +1,70 @@
 // Standard input cut into lines, whatever the reads bring.
-use crate::buffer::{put, within};
+use crate::buffer::{behind, behind_mut, copy, first};
 use std::io::Read;
 
-// What is left of the block that was read last, how much of the line is held, and whether the line is whole or the input over.
-#[derive(Clone, Copy)]
-pub struct Input {
-    at: usize,
+// The reader, and the block that was read last, of which what stands from `start` to `end` is not cut up yet.
+#[derive(Drop)]
+pub struct Input<'a, R> {
+    from: R,
+    block: &'a mut [u8],
+    start: usize,
     end: usize,
-    pub len: usize,
-    pub is_line: bool,
-    pub is_over: bool,
 }
 
-pub fn start() -> Input {
-    Input {
-        at: 0,
-        end: 0,
-        len: 0,
-        is_line: false,
-        is_over: false,
-    }
-}
-
-// A read that fails ends the input, as one that brings nothing does.
-fn read_again<R: Read>(from: &mut R, block: &mut [u8], input: Input) -> Input {
-    match from.read(block) {
-        Ok(count) if count > 0 => Input {
-            at: 0,
-            end: count,
-            len: input.len,
-            is_line: false,
-            is_over: false,
-        },
-        _ => Input {
-            at: 0,
+impl<'a, R: Read> Input<'a, R> {
+    pub fn new(from: R, block: &'a mut [u8]) -> Input<'a, R> {
+        Input {
+            from,
+            block,
+            start: 0,
             end: 0,
-            len: input.len,
-            is_line: input.len > 0,
-            is_over: input.len == 0,
-        },
-    }
-}
-
-// Bytes of the block go to the line, up to a line feed. A line that is too long fills its buffer.
-fn take(block: &[u8], line: &mut [u8], input: Input) -> Input {
-    let end = within(input.end, block);
-    let mut at = input.at;
-    let mut len = input.len;
-    while at < end {
-        let byte = block[at];
-        at += 1;
-        if byte == b'\n' {
-            return Input {
-                at,
-                end,
-                len,
-                is_line: true,
-                is_over: false,
-            };
         }
-        len = put(line, len, byte);
     }
-    Input {
-        at,
-        end,
-        len,
-        is_line: false,
-        is_over: false,
-    }
-}
 
-fn advance<R: Read>(from: &mut R, block: &mut [u8], line: &mut [u8], input: Input) -> Input {
-    if input.at < input.end {
-        return take(block, line, input);
+    // Whether there is more. A read that fails ends the input, as one that brings nothing does.
+    fn read_on(&mut self) -> bool {
+        self.start = 0;
+        self.end = self.from.read(self.block).unwrap_or(0);
+        self.end > 0
     }
-    read_again(from, block, input)
-}
 
-// The next line, in the first `len` bytes of `line`. A proved loop has to end, and nothing says that the input does: the
-// turns are counted down from a number that no run uses up.
-pub fn next_line<R: Read>(from: &mut R, block: &mut [u8], line: &mut [u8], before: Input) -> Input {
-    let mut input = Input {
-        at: before.at,
-        end: before.end,
-        len: 0,
-        is_line: false,
-        is_over: false,
-    };
-    let mut turns = u64::MAX;
-    while turns > 0 && !input.is_line && !input.is_over {
-        input = advance(from, block, line, input);
-        turns -= 1;
+    // Bytes of the block go to the rest of a line, up to a line feed: how many, and whether the line feed was there. A line that is too long fills
+    // its buffer.
+    fn take(&mut self, rest: &mut [u8]) -> (usize, bool) {
+        let start = self.start;
+        let end = self.end;
+        let left = behind(start, first(end, self.block));
+        let found = left.iter().position(|byte| *byte == b'\n');
+        let n = found.unwrap_or(left.len());
+        let taken = copy(&left[..n], rest);
+        self.start = start.wrapping_add(n).wrapping_add(1);
+        (taken, found.is_some())
     }
-    input
-}
 
-impl Input {
-    // A line that fills its buffer was too long, and counts as empty.
-    pub fn line_length(self, most: usize) -> usize {
-        if self.len < most { self.len } else { 0 }
+    // How many bytes of its buffer the next line takes. A proved loop has to end, and nothing says that the input does: no run uses up so many turns.
+    fn read_line(&mut self, line: &mut [u8]) -> Option<usize> {
+        let mut len = 0usize;
+        for _ in 0..u64::MAX {
+            if self.start >= self.end && !self.read_on() {
+                break;
+            }
+            let (taken, is_whole) = self.take(behind_mut(len, line));
+            len = len.wrapping_add(taken);
+            if is_whole {
+                return Some(len);
+            }
+        }
+        // what stands behind the last line feed is a line, if it is anything
+        if len > 0 { Some(len) } else { None }
+    }
+
+    // The next line, in a lent buffer. One that fills it was too long, and counts as empty.
+    pub fn next_line<'l>(&mut self, line: &'l mut [u8]) -> Option<&'l [u8]> {
+        let len = self.read_line(line)?;
+        if len < line.len() {
+            Some(first(len, line))
+        } else {
+            Some(b"")
+        }
     }
 }

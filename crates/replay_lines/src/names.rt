@@ -1,102 +1,144 @@
-// The names of calls and operations, three letters as one number.
+// The names of calls and operations.
+use crate::tokens::Tokens;
 
-// numbers
-pub const DIR: u64 = 0x646972;
+// A call of the kinds that the programs answer, but of `loader`.
+#[derive(Clone, Copy, PartialEq, Eq)]
+pub enum Call {
+    // numbers
+    Direction,
+    Code,
+    Status,
+    // a number's call, as an operation of the same name
+    Reset,
+    Index,
+    // blocks
+    ReadCommand,
+    WriteCommand,
+    ConvertCommand,
+    ReadStatus,
+    WriteStatus,
+    MapStatus,
+    // replies
+    ChipInfo,
+    FlashId,
+    FlashInfo,
+    Capability,
+    Storage,
+    Sectors,
+    // operations
+    Open,
+    Step,
+    Give,
+    // the device
+    StartDefault,
+    StartConfigured,
+    StartNor,
+    WriteBulk,
+    ReadBulk,
+    WriteControl,
+    Area,
+    LastReset,
+    // runs
+    RunOperation,
+    RunUpload,
+    // uploads
+    Upload,
+    UploadStep,
+    WholeList,
+    CutList,
+    // decks
+    FreshDeck,
+    Block,
+    DeckDevice,
+}
 
-pub const COD: u64 = 0x636f64;
+#[derive(Clone, Copy, PartialEq, Eq)]
+pub enum OperationName {
+    ChipInfo,
+    FlashId,
+    FlashInfo,
+    Capability,
+    Storage,
+    EraseLba,
+    EraseForce,
+    ReadLba,
+    WriteLba,
+    ResetDevice,
+    SwitchStorage,
+}
 
-pub const STA: u64 = 0x737461;
-
-pub const IDX: u64 = 0x696478;
-// blocks
-pub const CRD: u64 = 0x637264;
-
-pub const CWR: u64 = 0x637772;
-
-pub const CNV: u64 = 0x636e76;
-
-pub const SRD: u64 = 0x737264;
-
-pub const SWR: u64 = 0x737772;
-
-pub const SMP: u64 = 0x736d70;
-// replies, and the operations that bring them
-pub const CHP: u64 = 0x636870;
-
-pub const FID: u64 = 0x666964;
-
-pub const FIN: u64 = 0x66696e;
-
-pub const CAP: u64 = 0x636170;
-
-pub const STO: u64 = 0x73746f;
-
-pub const SEC: u64 = 0x736563;
-// the other operations; `rst` is a number's call too
-pub const ERA: u64 = 0x657261;
-
-pub const ERF: u64 = 0x657266;
-
-pub const RDL: u64 = 0x72646c;
-
-pub const WRL: u64 = 0x77726c;
-
-pub const RST: u64 = 0x727374;
-
-pub const SWI: u64 = 0x737769;
-// operations
-pub const OPN: u64 = 0x6f706e;
-
-pub const STP: u64 = 0x737470;
-
-pub const GIV: u64 = 0x676976;
-// the device
-pub const DVD: u64 = 0x647664;
-
-pub const DVC: u64 = 0x647663;
-
-pub const DVN: u64 = 0x64766e;
-
-pub const BWR: u64 = 0x627772;
-
-pub const BRD: u64 = 0x627264;
-
-pub const CTL: u64 = 0x63746c;
-
-pub const ARE: u64 = 0x617265;
-
-pub const LST: u64 = 0x6c7374;
-// runs
-pub const RUN: u64 = 0x72756e;
-
-pub const URN: u64 = 0x75726e;
-// uploads
-pub const UPL: u64 = 0x75706c;
-
-pub const UST: u64 = 0x757374;
-
-pub const ALL: u64 = 0x616c6c;
-
-pub const CUT: u64 = 0x637574;
-// decks
-pub const DCK: u64 = 0x64636b;
-
-pub const BLK: u64 = 0x626c6b;
-
-pub const DEV: u64 = 0x646576;
-
-// A device's CONFIGURATION.
-pub fn has_configuration(call: u64) -> bool {
-    match call {
-        DVC | DVN => true,
-        _ => false,
+impl Call {
+    fn of(letters: &[u8; 3]) -> Option<Call> {
+        match letters {
+            b"dir" => Some(Call::Direction),
+            b"cod" => Some(Call::Code),
+            b"sta" => Some(Call::Status),
+            b"rst" => Some(Call::Reset),
+            b"idx" => Some(Call::Index),
+            b"crd" => Some(Call::ReadCommand),
+            b"cwr" => Some(Call::WriteCommand),
+            b"cnv" => Some(Call::ConvertCommand),
+            b"srd" => Some(Call::ReadStatus),
+            b"swr" => Some(Call::WriteStatus),
+            b"smp" => Some(Call::MapStatus),
+            b"chp" => Some(Call::ChipInfo),
+            b"fid" => Some(Call::FlashId),
+            b"fin" => Some(Call::FlashInfo),
+            b"cap" => Some(Call::Capability),
+            b"sto" => Some(Call::Storage),
+            b"sec" => Some(Call::Sectors),
+            b"opn" => Some(Call::Open),
+            b"stp" => Some(Call::Step),
+            b"giv" => Some(Call::Give),
+            b"dvd" => Some(Call::StartDefault),
+            b"dvc" => Some(Call::StartConfigured),
+            b"dvn" => Some(Call::StartNor),
+            b"bwr" => Some(Call::WriteBulk),
+            b"brd" => Some(Call::ReadBulk),
+            b"ctl" => Some(Call::WriteControl),
+            b"are" => Some(Call::Area),
+            b"lst" => Some(Call::LastReset),
+            b"run" => Some(Call::RunOperation),
+            b"urn" => Some(Call::RunUpload),
+            b"upl" => Some(Call::Upload),
+            b"ust" => Some(Call::UploadStep),
+            b"all" => Some(Call::WholeList),
+            b"cut" => Some(Call::CutList),
+            b"dck" => Some(Call::FreshDeck),
+            b"blk" => Some(Call::Block),
+            b"dev" => Some(Call::DeckDevice),
+            _ => None,
+        }
     }
 }
 
-// The room, which is OUTLEN bytes of FILL before the call.
-pub fn has_room(call: u64) -> bool {
-    match call {
-        CWR | CNV | SWR | STP | BRD | UST => true,
-        _ => false,
+impl OperationName {
+    fn of(letters: &[u8; 3]) -> Option<OperationName> {
+        match letters {
+            b"chp" => Some(OperationName::ChipInfo),
+            b"fid" => Some(OperationName::FlashId),
+            b"fin" => Some(OperationName::FlashInfo),
+            b"cap" => Some(OperationName::Capability),
+            b"sto" => Some(OperationName::Storage),
+            b"era" => Some(OperationName::EraseLba),
+            b"erf" => Some(OperationName::EraseForce),
+            b"rdl" => Some(OperationName::ReadLba),
+            b"wrl" => Some(OperationName::WriteLba),
+            b"rst" => Some(OperationName::ResetDevice),
+            b"swi" => Some(OperationName::SwitchStorage),
+            _ => None,
+        }
+    }
+}
+
+impl Tokens<'_> {
+    // The call that the line begins with.
+    pub fn call(&mut self) -> Option<Call> {
+        Call::of(&self.name()?)
+    }
+
+    pub fn operation(&mut self) -> Option<OperationName> {
+        self.gap()?;
+        OperationName::of(&self.name()?)
     }
 }

@@ -1,94 +1,98 @@
-// Records and steps, printed.
+// Records and steps, printed: each number behind a space.
 use crate::told;
 use loader_records::entry::RkBootEntry;
 use loader_records::header::RkBootHeader;
+use loader_records::list::RkBootHeaderEntry;
+use loader_records::time::RkTime;
 use loader_walk::walk::{Walk, WalkStep};
-use replay_answers::out::{decimal, text, told_values, value};
-use replay_answers::told::{Told, one, two};
+use std::io::{Result, Write};
 
-// A line's first number, and those behind it.
-pub fn first(out: &mut [u8], at: usize, told: Told) -> usize {
-    let next = decimal(out, at, told.number);
-    told_values(out, next, told)
+fn time_values<W: Write>(out: &mut W, time: RkTime) -> Result<()> {
+    let RkTime {
+        year,
+        month,
+        day,
+        hour,
+        minute,
+        second,
+    } = time;
+    write!(out, " {year} {month} {day} {hour} {minute} {second}")
 }
 
-// More numbers, each behind a space.
-pub fn more(out: &mut [u8], at: usize, told: Told) -> usize {
-    let next = value(out, at, told.number);
-    told_values(out, next, told)
+pub fn time<W: Write>(out: &mut W, time: RkTime) -> Result<()> {
+    out.write_all(b" |")?;
+    time_values(out, time)
 }
 
-// The same as a section.
-pub fn section(out: &mut [u8], at: usize, told: Told) -> usize {
-    let next = text(out, at, b" |");
-    more(out, next, told)
+fn list_values<W: Write>(out: &mut W, list: RkBootHeaderEntry) -> Result<()> {
+    let RkBootHeaderEntry {
+        count,
+        offset,
+        size,
+    } = list;
+    write!(out, " {count} {offset} {size}")
 }
 
-fn unit(out: &mut [u8], at: usize, unit: u16) -> usize {
-    value(out, at, unit as u64)
+pub fn list<W: Write>(out: &mut W, list: RkBootHeaderEntry) -> Result<()> {
+    out.write_all(b" |")?;
+    list_values(out, list)
 }
 
-fn units(out: &mut [u8], at: usize, units: &[u16]) -> usize {
-    let mut next = at;
-    for i in 0..units.len() {
-        next = unit(out, next, units[i]);
+pub fn entry<W: Write>(out: &mut W, entry: RkBootEntry) -> Result<()> {
+    let RkBootEntry {
+        size,
+        type_,
+        name,
+        data_offset,
+        data_size,
+        data_delay,
+    } = entry;
+    write!(out, " | {size} {type_}")?;
+    for unit in name {
+        write!(out, " {unit}")?;
     }
-    next
+    write!(out, " {data_offset} {data_size} {data_delay}")
 }
 
-pub fn entry(out: &mut [u8], at: usize, entry: RkBootEntry) -> usize {
-    let name = entry.name;
-    let next = section(out, at, one(entry.size as u64, entry.type_ as u64));
-    let next = units(out, next, &name);
-    more(out, next, told::data(entry))
+fn byte_values<W: Write>(out: &mut W, bytes: [u8; 4]) -> Result<()> {
+    let [a, b, c, d] = bytes;
+    write!(out, " {a} {b} {c} {d}")
 }
 
-fn numbers(header: RkBootHeader) -> Told {
-    two(
-        header.size as u64,
-        header.version as u64,
-        header.merge_version as u64,
-    )
+pub fn header<W: Write>(out: &mut W, header: RkBootHeader) -> Result<()> {
+    let RkBootHeader {
+        tag,
+        size,
+        version,
+        merge_version,
+        release,
+        supported_chip,
+        entry_471,
+        entry_472,
+        entry_loader,
+        sign_flag,
+        rc4_flag,
+    } = header;
+    out.write_all(b" |")?;
+    byte_values(out, tag)?;
+    write!(out, " {size} {version} {merge_version}")?;
+    time_values(out, release)?;
+    byte_values(out, supported_chip)?;
+    list_values(out, entry_471)?;
+    list_values(out, entry_472)?;
+    list_values(out, entry_loader)?;
+    write!(out, " {sign_flag} {rc4_flag}")
 }
 
-fn before_lists(out: &mut [u8], at: usize, header: RkBootHeader) -> usize {
-    let tag = header.tag;
-    let chip = header.supported_chip;
-    let next = section(out, at, told::bytes(tag));
-    let next = more(out, next, numbers(header));
-    let next = more(out, next, told::time(header.release));
-    more(out, next, told::bytes(chip))
-}
-
-fn lists(out: &mut [u8], at: usize, header: RkBootHeader) -> usize {
-    let next = more(out, at, told::list(header.entry_471));
-    let next = more(out, next, told::list(header.entry_472));
-    more(out, next, told::list(header.entry_loader))
-}
-
-fn flags(sign: u8, rc4: u8) -> Told {
-    one(sign as u64, rc4 as u64)
-}
-
-pub fn header(out: &mut [u8], at: usize, header: RkBootHeader) -> usize {
-    let next = before_lists(out, at, header);
-    let next = lists(out, next, header);
-    more(out, next, flags(header.sign_flag, header.rc4_flag))
-}
-
-pub fn walk(out: &mut [u8], at: usize, walk: Walk) -> usize {
-    section(out, at, one(walk.list as u64, walk.entry as u64))
-}
-
-pub fn came(step: WalkStep) -> Told {
-    let answer = step.answer;
-    let tag = step.unknown_tag;
-    told::came(answer, tag)
+pub fn walk<W: Write>(out: &mut W, walk: Walk) -> Result<()> {
+    let Walk { list, entry } = walk;
+    write!(out, " | {list} {entry}")
 }
 
 // What a step came to, the entry, and the record that it hands back.
-pub fn step(out: &mut [u8], at: usize, step: WalkStep) -> usize {
-    let next = first(out, at, came(step));
-    let next = entry(out, next, step.entry);
-    walk(out, next, step.walk)
+pub fn step<W: Write>(out: &mut W, step: WalkStep) -> Result<()> {
+    let told = told::came(step.answer, step.unknown_tag);
+    write!(out, "{told}")?;
+    entry(out, step.entry)?;
+    walk(out, step.walk)
 }

@@ -1,51 +1,42 @@
-// "Numbers": a number read as a direction, a code, a status, a reset opcode, a storage index.
+// "Numbers": a number read as a direction, a code, a status, a reset opcode.
 use protocol_codes::{
     CodeRead, CommandCode, Direction, DirectionRead, ResetOpcode, ResetRead, Status, StatusRead,
-    StorageIndex,
 };
-use replay_answers::told::{Told, one, outside};
-use replay_answers::values::storage;
-use replay_lines::names::{COD, DIR, IDX, RST, STA};
+use replay_answers::told::Told;
 
-fn direction(n: u8) -> Told {
+// The number of the value that was read, or that of the refusal with the number that was given.
+fn told(number: u8, value: u8) -> Told {
+    Told::of(number, &[u64::from(value)])
+}
+
+pub fn direction(n: u8) -> Told {
     let read = Direction::from_number(n);
     match read {
-        DirectionRead::Known(d) => one(0, d.number() as u64),
-        DirectionRead::Unknown(n) => one(read.number() as u64, n as u64),
+        DirectionRead::Known(d) => told(0, d.number()),
+        DirectionRead::Unknown(n) => told(read.number(), n),
     }
 }
 
-fn code(n: u8) -> Told {
+pub fn code(n: u8) -> Told {
     let read = CommandCode::from_number(n);
     match read {
-        CodeRead::Known(c) => one(0, c.number() as u64),
-        CodeRead::Unknown(n) => one(read.number() as u64, n as u64),
+        CodeRead::Known(c) => told(0, c.number()),
+        CodeRead::Unknown(n) => told(read.number(), n),
     }
 }
 
-fn status(n: u8) -> Told {
+pub fn status(n: u8) -> Told {
     let read = Status::from_number(n);
     match read {
-        StatusRead::Known(s) => one(0, s.number() as u64),
-        StatusRead::Unknown(n) => one(read.number() as u64, n as u64),
+        StatusRead::Known(s) => told(0, s.number()),
+        StatusRead::Unknown(n) => told(read.number(), n),
     }
 }
 
-fn reset(n: u8) -> Told {
+pub fn reset(n: u8) -> Told {
     let read = ResetOpcode::from_number(n);
     match read {
-        ResetRead::Known(r) => one(0, r.number() as u64),
-        ResetRead::Unknown(n) => one(read.number() as u64, n as u64),
-    }
-}
-
-pub fn read(name: u64, n: u8) -> Told {
-    match name {
-        DIR => direction(n),
-        COD => code(n),
-        STA => status(n),
-        RST => reset(n),
-        IDX => storage(StorageIndex::from_number(n)),
-        _ => outside(),
+        ResetRead::Known(r) => told(0, r.number()),
+        ResetRead::Unknown(n) => told(read.number(), n),
     }
 }

@@ -1,117 +1,63 @@
-// "Replies": each read by its own wrapper, and sector data by its length.
+// "Replies": each read by its own wrapper, from exactly as many bytes as it has, and sector data by its length.
 use protocol_reply::flags::Capability;
 use protocol_reply::info::{ChipInfo, FlashId, FlashInfo};
 use protocol_reply::media::{StorageAnswer, storage_index};
 use protocol_reply::size::{SectorAnswer, sector_count};
-use replay_answers::told::{Answer, Told, nine, none, one, outside, plain, three};
-use replay_answers::values::{
-    capability_value, chip_value, id_value, info_value, storage, widened,
-};
-use replay_lines::buffer::copy;
-use replay_lines::line::byte_at;
-use replay_lines::names::{CAP, CHP, FID, FIN};
+use replay_answers::answer::Answer;
+use replay_answers::told::Told;
+use replay_answers::values::storage;
 
-fn flash_id(bytes: &[u8]) -> FlashId {
-    let mut id = [0u8; 5];
-    copy(bytes, &mut id);
-    FlashId::from_bytes(id)
+pub fn chip_info(bytes: &[u8]) -> Option<Answer> {
+    let info = ChipInfo::from_bytes(*bytes.as_array::<16>()?);
+    Some(Answer::with_small(Told::of(0, &[]), &info.inner()))
 }
 
-fn flash_info(bytes: &[u8]) -> FlashInfo {
-    let mut info = [0u8; 11];
-    copy(bytes, &mut info);
-    FlashInfo::from_bytes(info)
+pub fn flash_id(bytes: &[u8]) -> Option<Answer> {
+    let id = FlashId::from_bytes(*bytes.as_array::<5>()?);
+    Some(Answer::with_small(Told::of(0, &[]), &id.inner()))
 }
 
-fn info_told(info: FlashInfo) -> Told {
-    three(
-        0,
-        info.sectors() as u64,
-        info.size(),
-        info.block_size_sectors() as u64,
-    )
+pub fn flash_info(bytes: &[u8]) -> Option<Answer> {
+    let info = FlashInfo::from_bytes(*bytes.as_array::<11>()?);
+    let sectors = u64::from(info.sectors());
+    let block_size = u64::from(info.block_size_sectors());
+    let told = Told::of(0, &[sectors, info.size(), block_size]);
+    Some(Answer::with_small(told, &info.inner()))
 }
 
-fn info_answer(info: FlashInfo) -> Answer {
-    info_value(info_told(info), info)
+// The flags in the Rust's order.
+fn flags(capability: Capability) -> [bool; 9] {
+    [
+        capability.direct_lba(),
+        capability.vendor_storage(),
+        capability.first_4m_access(),
+        capability.read_lba(),
+        capability.read_com_log(),
+        capability.read_idb_config(),
+        capability.read_secure_mode(),
+        capability.new_idb(),
+        capability.switch_storage(),
+    ]
 }
 
-fn flag(is_set: bool) -> u64 {
-    if is_set { 1 } else { 0 }
+pub fn capability(bytes: &[u8]) -> Option<Answer> {
+    let capability = Capability::from_bytes(*bytes.as_array::<8>()?);
+    let told = Told::of(0, &flags(capability).map(u64::from));
+    Some(Answer::with_small(told, &capability.inner()))
 }
 
-fn flags(capability: Capability) -> Told {
-    nine(
-        0,
-        [
-            flag(capability.direct_lba()),
-            flag(capability.vendor_storage()),
-            flag(capability.first_4m_access()),
-            flag(capability.read_lba()),
-            flag(capability.read_com_log()),
-            flag(capability.read_idb_config()),
-            flag(capability.read_secure_mode()),
-            flag(capability.new_idb()),
-            flag(capability.switch_storage()),
-        ],
-    )
-}
-
-fn capability(bytes: &[u8]) -> Capability {
-    let mut flags = [0u8; 8];
-    copy(bytes, &mut flags);
-    Capability::from_bytes(flags)
-}
-
-fn capability_answer(capability: Capability) -> Answer {
-    capability_value(flags(capability), capability)
-}
-
-fn length(name: u64) -> usize {
-    match name {
-        CHP => 16,
-        FID => 5,
-        FIN => 11,
-        _ => 8,
-    }
-}
-
-// `chp`, `fid`, `fin`, `cap`
-pub fn read(name: u64, bytes: &[u8]) -> Answer {
-    if bytes.len() != length(name) {
-        return plain(outside());
-    }
-    match name {
-        CHP => chip_value(ChipInfo::from_bytes(widened(bytes))),
-        FID => id_value(flash_id(bytes)),
-        FIN => info_answer(flash_info(bytes)),
-        CAP => capability_answer(capability(bytes)),
-        _ => plain(outside()),
-    }
-}
-
-// `sto`
-pub fn media(bytes: &[u8]) -> Told {
-    if bytes.len() != 4 {
-        return outside();
-    }
-    let answer = storage_index([
-        byte_at(bytes, 0),
-        byte_at(bytes, 1),
-        byte_at(bytes, 2),
-        byte_at(bytes, 3),
-    ]);
+pub fn media(bytes: &[u8]) -> Option<Told> {
+    let answer = storage_index(*bytes.as_array::<4>()?);
     match answer {
-        StorageAnswer::Index(index) => storage(index),
-        StorageAnswer::ReplyParseFailure => none(answer.number() as u64),
+        StorageAnswer::Index(index) => Some(storage(index)),
+        StorageAnswer::ReplyParseFailure => Some(Told::of(answer.number(), &[])),
     }
 }
 
-// `sec`
 pub fn sectors(length: usize) -> Told {
     let answer = sector_count(length);
     match answer {
-        SectorAnswer::Count(count) => one(0, count.0 as u64),
-        _ => none(answer.number() as u64),
+        SectorAnswer::Count(count) => Told::of(0, &[u64::from(count.0)]),
+        _ => Told::of(answer.number(), &[]),
     }
 }

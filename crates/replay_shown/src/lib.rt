@@ -5,91 +5,45 @@
 #![tactic(auto)]
 
 use mock::device::MockState;
-use mock_areas::{Area, AreaFound, Areas};
+use mock_areas::{AreaFound, Areas};
 use mock_table::session::LastReset;
-use replay_answers::out::{decimal, section, spaced_bytes, text, told_values, value};
-use replay_device::devices::reset_told;
-use replay_lines::buffer::between;
-use replay_lines::line::after;
+use replay_answers::out::{bytes, section};
+use replay_lines::buffer::{behind, first};
+use std::io::{Result, Write};
 
-fn count_of(slots: [Area; 8]) -> u64 {
-    let mut count: u64 = 0;
-    for i in 0..8 {
-        if slots[i].held {
-            count = count.wrapping_add(1);
+fn area<W: Write>(out: &mut W, areas: Areas, number: u16, store: &[u8]) -> Result<()> {
+    let AreaFound::Held { start, length } = areas.find(number, store.len()) else {
+        return Ok(());
+    };
+    write!(out, " {number} ")?;
+    bytes(out, first(length, behind(start, store)))
+}
+
+// How many areas are held, and these in ascending order.
+fn areas<W: Write>(out: &mut W, areas: Areas, store: &[u8]) -> Result<()> {
+    let mut slots = areas.slots;
+    slots.sort_unstable_by_key(|slot| slot.number);
+    let held = slots.iter().filter(|slot| slot.held).count();
+    write!(out, " | {held}")?;
+    for slot in slots.iter().filter(|slot| slot.held) {
+        area(out, areas, slot.number, store)?;
+    }
+    Ok(())
+}
+
+fn reset<W: Write>(out: &mut W, last: LastReset) -> Result<()> {
+    match last {
+        LastReset::None => out.write_all(b" | 0"),
+        LastReset::Some(opcode) => {
+            let number = opcode.number();
+            write!(out, " | 1 {number}")
         }
     }
-    count
-}
-
-fn nearer(area: Area, from: u32, best: u32) -> u32 {
-    let number = area.number as u32;
-    if area.held && from <= number && number < best {
-        number
-    } else {
-        best
-    }
-}
-
-// No area has so high a number.
-const NO_AREA: u32 = 65536;
-
-// The lowest held number from `from` on.
-fn next_area(slots: [Area; 8], from: u32) -> u32 {
-    let mut best = NO_AREA;
-    for i in 0..8 {
-        best = nearer(slots[i], from, best);
-    }
-    best
-}
-
-fn held_text(out: &mut [u8], at: usize, number: u32, bytes: &[u8]) -> usize {
-    let next = value(out, at, number as u64);
-    spaced_bytes(out, next, bytes, bytes.len())
-}
-
-fn area_text(out: &mut [u8], at: usize, areas: Areas, number: u32, store: &[u8]) -> usize {
-    let found = areas.find((number % 65536) as u16, store.len());
-    match found {
-        AreaFound::Held { start, length } => held_text(
-            out,
-            at,
-            number,
-            between(store, start, after(start, length)),
-        ),
-        AreaFound::NotHeld => at,
-    }
-}
-
-// The held areas in ascending order.
-fn area_list(out: &mut [u8], at: usize, areas: Areas, slots: [Area; 8], store: &[u8]) -> usize {
-    let mut next = at;
-    let mut number = next_area(slots, 0);
-    let mut turns: u64 = 8;
-    while turns > 0 && number < NO_AREA {
-        next = area_text(out, next, areas, number, store);
-        number = next_area(slots, number.wrapping_add(1));
-        turns -= 1;
-    }
-    next
-}
-
-fn areas_text(out: &mut [u8], at: usize, areas: Areas, store: &[u8]) -> usize {
-    let slots = areas.slots;
-    let next = text(out, at, b" | ");
-    let next = decimal(out, next, count_of(slots));
-    area_list(out, next, areas, slots, store)
-}
-
-fn reset_text(out: &mut [u8], at: usize, last: LastReset) -> usize {
-    let told = reset_told(last);
-    let next = text(out, at, b" |");
-    told_values(out, next, told)
 }
 
 // FLASH | AREAS | RESET
-pub fn device(out: &mut [u8], at: usize, state: MockState, flash: &[u8], store: &[u8]) -> usize {
-    let next = section(out, at, true, flash, flash.len());
-    let next = areas_text(out, next, state.areas, store);
-    reset_text(out, next, state.last_reset())
+pub fn device<W: Write>(out: &mut W, state: MockState, flash: &[u8], store: &[u8]) -> Result<()> {
+    section(out, flash)?;
+    areas(out, state.areas, store)?;
+    reset(out, state.last_reset())
 }

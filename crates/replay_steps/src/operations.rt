@@ -1,213 +1,158 @@
 // "Operations": the current operation, stepped by hand.
 use operation::starts::{
     UsbStart, capability, chip_info, erase_force, erase_lba, flash_id, flash_info, read_lba,
-    reset_device, switch_storage, write_lba,
+    reset_device, storage, switch_storage, write_lba,
 };
 use operation::steps::{UsbOperation, UsbStep};
 use operation_finish::{Beside, FinishAnswer, SectorTransfer, UsbReply};
-use protocol_codes::{ResetOpcode, ResetRead};
 use protocol_reply::size::SectorAnswer;
+use replay_answers::answer::{Answer, Tail};
 use replay_answers::refusals::operation_error;
-use replay_answers::told::{Answer, Tail, Told, none, one, outside, plain, two, with_tail};
-use replay_answers::values::{
-    IndexRead, capability_value, chip_value, id_value, index, info_value, storage,
-};
-use replay_lines::asked::Asked;
-use replay_lines::buffer::{between, copy, within};
-use replay_lines::line::{as_u8, as_u16, as_u32};
-use replay_lines::names::{CAP, CHP, ERA, ERF, FID, FIN, OPN, RDL, RST, STO, STP, SWI, WRL};
+use replay_answers::told::Told;
+use replay_answers::values;
+use replay_answers::values::{read_reset, read_storage};
+use replay_lines::buffer::{copy, first, first_mut};
+use replay_lines::data::LEN;
+use replay_lines::names::OperationName;
+use replay_lines::tokens::Tokens;
 
-// The current operation: whether there is one, its record, and the length of the caller's data, which stands in a buffer of its own.
+// An operation's record, and the length of the caller's data.
 #[derive(Clone, Copy)]
 pub struct Current {
-    pub is_there: bool,
     pub record: UsbOperation,
     pub length: usize,
 }
 
-#[derive(Clone, Copy)]
-pub struct Operated {
-    pub answer: Answer,
-    pub current: Current,
+// The current operation, where there is one, and the buffer that the caller's data stands in.
+#[derive(Drop)]
+pub struct Operations<'a> {
+    pub current: Option<Current>,
+    pub own: &'a mut [u8],
 }
 
-pub fn current_of(is_there: bool, record: UsbOperation, length: usize) -> Current {
-    Current {
-        is_there,
-        record,
-        length,
+// The record of an operation without sector data, from its ARGS.
+fn plain(name: OperationName, tag: u32, tokens: &mut Tokens) -> Option<UsbOperation> {
+    match name {
+        OperationName::ChipInfo => Some(chip_info(tag)),
+        OperationName::FlashId => Some(flash_id(tag)),
+        OperationName::FlashInfo => Some(flash_info(tag)),
+        OperationName::Capability => Some(capability(tag)),
+        OperationName::Storage => Some(storage(tag)),
+        OperationName::EraseLba => Some(erase_lba(tag, tokens.u32()?, tokens.u16()?)),
+        OperationName::EraseForce => Some(erase_force(tag, tokens.u32()?, tokens.u16()?)),
+        OperationName::ResetDevice => Some(reset_device(tag, read_reset(tokens)?)),
+        OperationName::SwitchStorage => Some(switch_storage(tag, read_storage(tokens)?)),
+        OperationName::ReadLba | OperationName::WriteLba => None,
     }
-}
-
-fn with_answer(answer: Answer, current: Current) -> Operated {
-    Operated { answer, current }
-}
-
-pub fn no_operation() -> Current {
-    current_of(false, chip_info(0), 0)
-}
-
-fn begun(record: UsbOperation) -> Current {
-    current_of(true, record, 0)
-}
-
-fn simple(op: u64, tag: u32) -> Current {
-    match op {
-        CHP => begun(chip_info(tag)),
-        FID => begun(flash_id(tag)),
-        FIN => begun(flash_info(tag)),
-        CAP => begun(capability(tag)),
-        STO => begun(operation::starts::storage(tag)),
-        _ => no_operation(),
-    }
-}
-
-fn reset(tag: u32, n: u8) -> Current {
-    match ResetOpcode::from_number(n) {
-        ResetRead::Known(opcode) => begun(reset_device(tag, opcode)),
-        ResetRead::Unknown(_) => no_operation(),
-    }
-}
-
-fn switched(tag: u32, is_named: u64, n: u8) -> Current {
-    match index(is_named, n) {
-        IndexRead::Known(i) => begun(switch_storage(tag, i)),
-        IndexRead::Nothing => no_operation(),
-    }
-}
-
-fn with_arguments(asked: Asked) -> Current {
-    let op = asked.op;
-    let tag = as_u32(asked.a);
-    match op {
-        ERA => begun(erase_lba(tag, as_u32(asked.b), as_u16(asked.c))),
-        ERF => begun(erase_force(tag, as_u32(asked.b), as_u16(asked.c))),
-        RST => reset(tag, as_u8(asked.b)),
-        SWI => switched(tag, asked.b, as_u8(asked.c)),
-        _ => simple(op, tag),
-    }
-}
-
-fn started(current: Current) -> Operated {
-    if current.is_there {
-        with_answer(plain(none(0)), current)
-    } else {
-        with_answer(plain(outside()), current)
-    }
-}
-
-fn sector_start(start: UsbStart, size: usize) -> Operated {
-    let answer = start.answer;
-    let record = start.operation;
-    match answer {
-        SectorAnswer::Count(_) => started(current_of(true, record, size)),
-        _ => with_answer(plain(none(answer.number() as u64)), no_operation()),
-    }
-}
-
-fn opened(asked: Asked) -> Operated {
-    let op = asked.op;
-    let tag = as_u32(asked.a);
-    let first = as_u32(asked.b);
-    match op {
-        RDL => sector_start(read_lba(tag, first, asked.len), asked.len),
-        WRL => sector_start(write_lba(tag, first, asked.len), asked.len),
-        _ => started(with_arguments(asked)),
-    }
-}
-
-// `opn`
-fn open(asked: Asked, bytes: &[u8], own: &mut [u8]) -> Operated {
-    if !asked.ok {
-        return started(no_operation());
-    }
-    copy(bytes, own);
-    opened(asked)
 }
 
 // Bytes: what was moved, and of a short transfer what was asked behind it.
 fn transfer_value(transfer: SectorTransfer) -> Told {
     match transfer {
-        SectorTransfer::Whole(moved) => one(0, moved.0 as u64),
-        SectorTransfer::Short(short) => two(0, short.moved.0 as u64, short.asked.0 as u64),
+        SectorTransfer::Whole(moved) => Told::of(0, &[u64::from(moved.0)]),
+        SectorTransfer::Short(short) => {
+            Told::of(0, &[u64::from(short.moved.0), u64::from(short.asked.0)])
+        }
     }
 }
 
 fn reply_value(reply: UsbReply, beside: Beside) -> Answer {
+    let none = Told::of(0, &[]);
     match reply {
-        UsbReply::ChipInfo => chip_value(beside.chip_info),
-        UsbReply::FlashId => id_value(beside.flash_id),
-        UsbReply::FlashInfo => info_value(none(0), beside.flash_info),
-        UsbReply::Capability => capability_value(none(0), beside.capability),
-        UsbReply::Nothing => plain(none(0)),
-        UsbReply::Storage(index) => plain(storage(index)),
-        UsbReply::Sectors(transfer) => plain(transfer_value(transfer)),
+        UsbReply::ChipInfo => Answer::with_small(none, &beside.chip_info.inner()),
+        UsbReply::FlashId => Answer::with_small(none, &beside.flash_id.inner()),
+        UsbReply::FlashInfo => Answer::with_small(none, &beside.flash_info.inner()),
+        UsbReply::Capability => Answer::with_small(none, &beside.capability.inner()),
+        UsbReply::Nothing => Answer::from(none),
+        UsbReply::Storage(index) => Answer::from(values::storage(index)),
+        UsbReply::Sectors(transfer) => Answer::from(transfer_value(transfer)),
     }
 }
 
 // What a finished operation tells: 0 with its value, or 10 to 15.
 pub fn finished(answer: FinishAnswer, beside: Beside) -> Answer {
-    let signature = beside.signature;
     match answer {
         FinishAnswer::Replied(reply) => reply_value(reply, beside),
-        FinishAnswer::Failed(error) => plain(operation_error(error, signature)),
+        FinishAnswer::Failed(error) => Answer::from(operation_error(error, beside.signature)),
     }
 }
 
 fn step_answer(step: UsbStep, beside: Beside) -> Answer {
     match step {
-        UsbStep::WriteCommand => with_tail(one(0, 1), Tail::Room(31)),
-        UsbStep::WriteData(n) => with_tail(one(0, 1), Tail::Own(n)),
-        UsbStep::ReadInband(n) => plain(two(0, 2, n as u64)),
-        UsbStep::ReadData(n) => plain(two(0, 2, n as u64)),
-        UsbStep::ReadStatus(n) => plain(two(0, 2, n as u64)),
+        UsbStep::WriteCommand => Answer::with_tail(Told::of(0, &[1]), Tail::Room(31)),
+        UsbStep::WriteData(n) => Answer::with_tail(Told::of(0, &[1]), Tail::Own(n)),
+        UsbStep::ReadInband(n) | UsbStep::ReadData(n) | UsbStep::ReadStatus(n) => {
+            Answer::from(Told::of(0, &[2, n as u64]))
+        }
         UsbStep::Finished(answer) => finished(answer, beside).as_finish(),
-        _ => plain(none(step.number() as u64)),
+        _ => Answer::from(Told::of(step.number(), &[])),
     }
 }
 
-// `stp`
-fn step(current: Current, own: &[u8], room: &mut [u8], len: usize) -> Operated {
-    let record = current.record;
-    let n = within(len, room);
-    let done = record.step(between(own, 0, current.length), &mut room[..n]);
-    let step = done.step;
-    with_answer(
-        step_answer(step, done.beside),
-        current_of(true, done.next, current.length),
-    )
-}
-
-fn given(record: UsbOperation, length: usize, bytes: &[u8], own: &mut [u8]) -> Operated {
-    let done = record.give(bytes, own);
-    let giving = done.answer;
-    with_answer(
-        plain(none(giving.number() as u64)),
-        current_of(true, done.next, length),
-    )
-}
-
-// `giv`
-fn give(current: Current, bytes: &[u8], own: &mut [u8]) -> Operated {
-    let n = within(current.length, own);
-    given(current.record, current.length, bytes, &mut own[..n])
-}
-
-pub fn answer(
-    asked: Asked,
-    current: Current,
-    bytes: &[u8],
-    own: &mut [u8; 65536],
-    room: &mut [u8; 65536],
-) -> Operated {
-    if asked.call == OPN {
-        return open(asked, bytes, own);
+impl Operations<'_> {
+    // FIRST DATA of a sector operation.
+    fn open_sectors(
+        &mut self,
+        name: OperationName,
+        tag: u32,
+        mut tokens: Tokens,
+        data: &mut [u8],
+    ) -> Option<Answer> {
+        let sector = tokens.u32()?;
+        let length = tokens.data(LEN, data)?;
+        tokens.end()?;
+        let UsbStart { answer, operation } = if name == OperationName::ReadLba {
+            read_lba(tag, sector, length)
+        } else {
+            write_lba(tag, sector, length)
+        };
+        if let SectorAnswer::Count(_) = answer {
+            copy(first(length, data), self.own);
+            self.current = Some(Current {
+                record: operation,
+                length,
+            });
+        }
+        Some(Answer::from(Told::of(answer.number(), &[])))
     }
-    if !current.is_there || !asked.ok {
-        return with_answer(plain(outside()), current);
+
+    // `opn`
+    pub fn open(&mut self, mut tokens: Tokens, data: &mut [u8]) -> Option<Answer> {
+        self.current = None;
+        let name = tokens.operation()?;
+        let tag = tokens.u32()?;
+        if name == OperationName::ReadLba || name == OperationName::WriteLba {
+            return self.open_sectors(name, tag, tokens, data);
+        }
+        let record = plain(name, tag, &mut tokens)?;
+        tokens.end()?;
+        self.current = Some(Current { record, length: 0 });
+        Some(Answer::from(Told::of(0, &[])))
     }
-    if asked.call == STP {
-        return step(current, own, room, asked.room);
+
+    // `stp`
+    pub fn step(&mut self, mut tokens: Tokens, room: &mut [u8]) -> Option<Answer> {
+        let Current { record, length } = self.current?;
+        let len = tokens.room(room)?;
+        tokens.end()?;
+        let done = record.step(first(length, self.own), first_mut(len, room));
+        self.current = Some(Current {
+            record: done.next,
+            length,
+        });
+        Some(step_answer(done.step, done.beside).with_room(len))
     }
-    give(current, bytes, own)
+
+    // `giv`
+    pub fn give(&mut self, mut tokens: Tokens, data: &mut [u8]) -> Option<Answer> {
+        let Current { record, length } = self.current?;
+        let len = tokens.data(LEN, data)?;
+        tokens.end()?;
+        let done = record.give(first(len, data), first_mut(length, self.own));
+        self.current = Some(Current {
+            record: done.next,
+            length,
+        });
+        Some(Answer::from(Told::of(done.answer.number(), &[])))
+    }
 }

@@ -5,6 +5,5 @@
 
 #![tactic(auto)]
 
-pub mod calls;
 pub mod runs;
 pub mod world;

@@ -1,124 +1,95 @@
 // "Runs": the current operation or the current upload, run against the current device with a budget of steps.
-use crate::world::{World, stays};
 use operation_finish::Beside;
-use replay_answers::told::{Answer, Told, none, outside, plain};
-use replay_device::devices::{device_of, refusal};
-use replay_lines::asked::Asked;
-use replay_lines::buffer::{between, within};
-use replay_lines::line::as_u32;
-use replay_lines::names::RUN;
-use replay_steps::operations::{current_of, finished};
-use replay_steps::uploads::upload_of;
-use run_operation::{RunAnswer, UsbRun};
+use replay_answers::answer::Answer;
+use replay_answers::told::Told;
+use replay_device::devices::{Device, Devices, refusal};
+use replay_lines::buffer::first_mut;
+use replay_lines::tokens::Tokens;
+use replay_steps::operations::{Current, Operations, finished};
+use replay_steps::uploads::{Upload, Uploads};
+use run_operation::RunAnswer;
 use run_turn::Stop;
-use run_upload::{LoadAnswer, LoadRun, LoadStop, run_upload};
+use run_upload::{LoadAnswer, LoadStop, run_upload};
 
 fn stop_answer(stop: Stop, beside: Beside) -> Answer {
-    let signature = beside.signature;
     match stop {
         Stop::Finished(answer) => finished(answer, beside),
-        Stop::Device(error) => plain(refusal(error, signature)),
-        _ => plain(none(stop.number() as u64)),
+        Stop::Device(error) => Answer::from(refusal(error, beside.signature)),
+        _ => Answer::from(Told::of(stop.number(), &[])),
     }
 }
 
 fn run_answer(answer: RunAnswer, beside: Beside) -> Answer {
     match answer {
         RunAnswer::Ended(stop) => stop_answer(stop, beside),
-        RunAnswer::OutOfSteps => plain(none(answer.number() as u64)),
+        RunAnswer::OutOfSteps => Answer::from(Told::of(answer.number(), &[])),
     }
-}
-
-// A run's answer, and the operation and the device as it left them.
-fn after_run(mut world: World, done: UsbRun) -> World {
-    let outcome = done.answer;
-    world.answer = run_answer(outcome, done.beside).with_steps(done.steps);
-    world.operation = current_of(true, done.operation, world.operation.length);
-    world.device = device_of(true, done.device, world.device.flash);
-    world
-}
-
-// `run`
-fn run(budget: u32, world: World, own: &mut [u8], flash: &mut [u8], store: &[u8]) -> World {
-    let current = world.operation;
-    let device = world.device;
-    let n = within(current.length, own);
-    let m = within(device.flash, flash);
-    let done = run_operation::run(
-        current.record,
-        device.state,
-        &mut flash[..m],
-        between(store, 0, device.store),
-        &mut own[..n],
-        budget,
-    );
-    after_run(world, done)
 }
 
 fn load_stop_told(stop: LoadStop) -> Told {
     match stop {
         LoadStop::Device(error) => refusal(error, [0; 4]),
-        _ => none(stop.number() as u64),
+        _ => Told::of(stop.number(), &[]),
     }
 }
 
 fn load_told(answer: LoadAnswer) -> Told {
     match answer {
         LoadAnswer::Ended(stop) => load_stop_told(stop),
-        LoadAnswer::OutOfSteps => none(answer.number() as u64),
+        LoadAnswer::OutOfSteps => Told::of(answer.number(), &[]),
     }
 }
 
-fn after_load(mut world: World, done: LoadRun) -> World {
-    let outcome = done.answer;
-    world.answer = plain(load_told(outcome)).with_steps(done.steps);
-    world.upload = upload_of(true, done.upload, world.upload.length);
-    world.device = device_of(true, done.device, world.device.flash);
-    world
+// `run`
+pub fn run(
+    operations: &mut Operations,
+    devices: &mut Devices,
+    mut tokens: Tokens,
+) -> Option<Answer> {
+    let Current { record, length } = operations.current?;
+    let Device { state, flash } = devices.current?;
+    let budget = tokens.u32()?;
+    tokens.end()?;
+    let done = run_operation::run(
+        record,
+        state,
+        first_mut(flash, devices.flash),
+        first_mut(state.store_length, devices.store),
+        first_mut(length, operations.own),
+        budget,
+    );
+    operations.current = Some(Current {
+        record: done.operation,
+        length,
+    });
+    devices.current = Some(Device {
+        state: done.device,
+        flash,
+    });
+    Some(run_answer(done.answer, done.beside).with_steps(done.steps))
 }
 
 // `urn`
-fn load(budget: u32, world: World, image: &[u8], flash: &[u8], store: &mut [u8]) -> World {
-    let upload = world.upload;
-    let device = world.device;
-    let n = within(device.store, store);
+pub fn load(uploads: &mut Uploads, devices: &mut Devices, mut tokens: Tokens) -> Option<Answer> {
+    let Upload { record, length } = uploads.current?;
+    let Device { state, flash } = devices.current?;
+    let budget = tokens.u32()?;
+    tokens.end()?;
     let done = run_upload(
-        upload.record,
-        device.state,
-        between(flash, 0, device.flash),
-        &mut store[..n],
-        between(image, 0, upload.length),
+        record,
+        state,
+        first_mut(flash, devices.flash),
+        first_mut(state.store_length, devices.store),
+        first_mut(length, uploads.image),
         budget,
     );
-    after_load(world, done)
-}
-
-// Whether the two things that a run takes are there.
-fn is_run(ok: bool, is_there: bool, has_device: bool) -> bool {
-    if ok && is_there {
-        return has_device;
-    }
-    false
-}
-
-// `run`, `urn`
-pub fn answer(
-    asked: Asked,
-    world: World,
-    image: &[u8; 100000],
-    own: &mut [u8; 65536],
-    flash: &mut [u8; 65536],
-    store: &mut [u8; 65536],
-) -> World {
-    let budget = as_u32(asked.a);
-    if asked.call == RUN {
-        if is_run(asked.ok, world.operation.is_there, world.device.is_there) {
-            return run(budget, world, own, flash, store);
-        }
-        return stays(world, plain(outside()));
-    }
-    if is_run(asked.ok, world.upload.is_there, world.device.is_there) {
-        return load(budget, world, image, flash, store);
-    }
-    stays(world, plain(outside()))
+    uploads.current = Some(Upload {
+        record: done.upload,
+        length,
+    });
+    devices.current = Some(Device {
+        state: done.device,
+        flash,
+    });
+    Some(Answer::from(load_told(done.answer)).with_steps(done.steps))
 }

@@ -1,36 +1,37 @@
-// The record of all that stays.
-use replay_answers::told::{Answer, outside, plain};
-use replay_device::devices;
-use replay_device::devices::Device;
-use replay_steps::operations::Current;
-use replay_steps::uploads::Upload;
-use replay_steps::{operations, uploads};
+// The things that stay from line to line, with their buffers, and where a call leads.
+use crate::runs;
+use replay_answers::answer::Answer;
+use replay_device::devices::Devices;
+use replay_lines::names::Call;
+use replay_lines::tokens::Tokens;
+use replay_steps::operations::Operations;
+use replay_steps::uploads::Uploads;
 
-// The things that stay from line to line, beside their buffers, what the line at hand is told, and the place in the output.
-#[derive(Clone, Copy)]
-pub struct World {
-    pub answer: Answer,
-    pub at: usize,
-    pub upload: Upload,
-    pub operation: Current,
-    pub device: Device,
+#[derive(Drop)]
+pub struct World<'a> {
+    pub operations: Operations<'a>,
+    pub uploads: Uploads<'a>,
+    pub devices: Devices<'a>,
 }
 
-pub fn stays(mut world: World, answer: Answer) -> World {
-    world.answer = answer;
-    world
-}
-
-pub fn new_world() -> World {
-    let answer = plain(outside());
-    let upload = uploads::no_upload();
-    let operation = operations::no_operation();
-    let device = devices::no_device();
-    World {
-        answer,
-        at: 0,
-        upload,
-        operation,
-        device,
+impl World<'_> {
+    // What a line's call is told, where the line is of these kinds and about a thing that is there.
+    pub fn answer(
+        &mut self,
+        call: Call,
+        tokens: Tokens,
+        data: &mut [u8],
+        room: &mut [u8],
+    ) -> Option<Answer> {
+        match call {
+            Call::Open => self.operations.open(tokens, data),
+            Call::Step => self.operations.step(tokens, room),
+            Call::Give => self.operations.give(tokens, data),
+            Call::Upload => self.uploads.start(tokens, data),
+            Call::UploadStep => self.uploads.step(tokens, room),
+            Call::RunOperation => runs::run(&mut self.operations, &mut self.devices, tokens),
+            Call::RunUpload => runs::load(&mut self.uploads, &mut self.devices, tokens),
+            _ => self.devices.answer(call, tokens, data, room),
+        }
     }
 }

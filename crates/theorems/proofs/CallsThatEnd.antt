@@ -38,7 +38,7 @@ use Rattle.std.specs.Prelude.{Option}
 use Rattle.protocol_codes.specs.declared.ResetOpcode.{ResetOpcode}
 
 -- whatever the transaction is, a read of 13 bytes is refused or is its status: no reply is that long, and no sectors are
-module _ (v : Variety) (last : LastReset) where
+module _ (v : Variety) (last : Option ResetOpcode) where
   abbrev pub StatusRead : Turn → Type 0
   StatusRead t =
       ((number : ℕ) × (values : List ℕ) × (t ≡ refuses last number values)) ⊎ ((tag : ℕ) × (pending : status.Status) × (t ≡ done None last (effect.Reply (reply.Status tag pending))))

@@ -300,7 +300,7 @@ module _ (k : Kind) (c : CommandBlock) (op : UsbOperation) (on : OnStandIns (fre
       (subst Turns (sym m.tells) (turn_turns (usb_state op device flash bytes) its_left)) s refl
 
   pub run_never_short : (store budget : ℕ) (r : UsbRun) → RunMeets r after leaves (usb_run (usb_state op device flash bytes) store budget) → (s : ShortTransfer)
-      → r.answer ≡ Ok (Ok (usb.Sectors (Short s))) → ⊥
+      → r.answer ≡ Ok (usb.Sectors (Short s)) → ⊥
   unfolding answer_end stop_told finish_told reply_given end_told
   run_never_short store budget r m s e =
       (checked_run (usb_state op device flash bytes) store budget its_left).0 s

@@ -41,6 +41,8 @@ use Rattle.operation.specs.declared.steps.UsbOperation.{UsbOperation}
 use Rattle.operation.specs.declared.steps.UsbStep.TheVariants as step
 use Rattle.operation.specs.declared.steps.UsbStepped.{UsbStepped}
 use Rattle.operation.specs.declared.giving.UsbGiven.{UsbGiven}
+use Rattle.operation.specs.Code.{finished_by}
+use Rattle.operation.proofs.Cases.{passed_on}
 use Rattle.operation.specs.Record.{io_of, transfer_length, inband_length}
 use Rattle.operation.specs.Step.{Step, finished_told, command_step, io_step, status_step, finish_step, step_of, usb_step, step_told, beside_asks, beside_at, StepMeets}
 use Rattle.operation.specs.Give.{Give, nothing_asked, asks_for, owed, received, give_of, usb_give, giving_told, GiveMeets}
@@ -144,7 +146,8 @@ finished_answered : (t : Told Reply) → FinishAnswered t → (x : Result UsbSte
 unfolding step_told
 finished_answered t a =
     let same : beside_at (finished_told t) ≡ a.0.beside = beside_finished t ∙ sym a.1.beside in
-    (Ok (step.Finished a.0.answer), ap (λ (b : Beside). finished_told (finish_told a.0.answer b)) same ∙ ap finished_told a.1.tells)
+    (finished_by a.0.answer,
+     ap (λ (b : Beside). step_told (finished_by a.0.answer) b) same ∙ passed_on a.0.answer a.0.beside ∙ ap finished_told a.1.tells)
 
 module _ (op : UsbOperation) (lent room : ℕ) where
   data_answered : (at : IOBytes) → StepAnswered (io_step at op lent)

@@ -40,7 +40,8 @@ use Rattle.theorems.proofs.OperationSteps.{whole_ends}
 use Rattle.theorems.proofs.NoTransactionLeft.{landed_long}
 use Rattle.theorems.proofs.CheckedRuns.{spent_met, checked_resumed, checked_whole}
 use Rattle.std.specs.Prelude.{Result}
-use Rattle.rule_number.specs.declared.OutOfSteps.{OutOfSteps}
+use Rattle.run_operation.specs.declared.RunError.{RunError}
+use Rattle.run_operation.specs.declared.RunError.TheVariants.{OutOfSteps}
 use Rattle.std.specs.declared.result.Result.TheVariants.{Ok, Err}
 use Rattle.operation_finish.specs.declared.UsbReply.{UsbReply}
 use Rattle.run_turn.specs.declared.StopError.{StopError}
@@ -198,11 +199,11 @@ usb_kind a s store e =
     ap (λ (r : Ran Reply UsbState). r.state.operation.kind) (spent_met usb_turn (λ (t : UsbState). run_rules t store) a s e).1 ∙ (runs_kept a s).kind
 
 module _ (first second whole : UsbRun) (op : UsbOperation) (device : MockState) (flash flash₁ flash₂ flash₃ : List ℕ) (store a : ℕ)
-    (out : first.answer ≡ (Err (record {}))) where
+    (out : first.answer ≡ Err OutOfSteps) where
   spent : (bytes bytes₁ : List ℕ) → RunMeets first flash₁ bytes₁ (usb_run (usb_state op device flash bytes) store a)
       → (usb_run (usb_state op device flash bytes) store a).end ≡ out_of_steps
   unfolding answer_end
-  spent bytes bytes₁ m = sym m.tells ∙ ap (λ (x : Result (Result UsbReply StopError) OutOfSteps). answer_end x first.beside) out
+  spent bytes bytes₁ m = sym m.tells ∙ ap (λ (x : Result UsbReply RunError). answer_end x first.beside) out
 
   -- a run with the budget `all` that is the first run and then the second one
   abbrev Joins : ℕ → ℕ → List ℕ → Type 0

@@ -28,7 +28,8 @@ use Rattle.run_upload.specs.Load.{LoadState, load_state, onward, carries, load_t
 use Rattle.run_upload.specs.Answers.{turn_told, TurnMeets, RunMeets}
 use Rattle.theorems.proofs.LinkedWhole.{whole_told}
 use Rattle.std.specs.declared.ops.ControlFlow.{ControlFlow}
-use Rattle.run_upload.specs.declared.LoadStop.{LoadStop}
+use Rattle.run_upload.specs.declared.LoadStopError.{LoadStopError}
+use Rattle.std.specs.Prelude.{Result}
 use Rattle.std.specs.declared.ops.ControlFlow.TheVariants.{Continue, Break}
 
 -- a call of `step` has an answer, at every record
@@ -60,7 +61,7 @@ abbrev Leaves : (LoadState → Type 0) → Turned Unit LoadState → Type 0
 Leaves P (ends told s) = P s
 Leaves P (goes s) = P s
 
-left_by_turn : (P : LoadState → Type 0) (t : ControlFlow LoadStop Unit) (s : LoadState) → Leaves P (turn_told t s) → P s
+left_by_turn : (P : LoadState → Type 0) (t : ControlFlow (Result Unit LoadStopError) Unit) (s : LoadState) → Leaves P (turn_told t s) → P s
 unfolding turn_told
 left_by_turn P (Continue u) s p = p
 left_by_turn P (Break stop) s p = p

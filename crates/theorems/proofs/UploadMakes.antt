@@ -21,7 +21,8 @@ use Rattle.run_upload.specs.declared.LoadRun.{LoadRun}
 use Rattle.run_upload.specs.Load.{LoadState, load_state, onward, carries, load_turn, load_rules, unstarted, load_run}
 use Rattle.run_upload.specs.Answers.{turn_told, TurnMeets, RunMeets}
 use Rattle.std.specs.declared.ops.ControlFlow.{ControlFlow}
-use Rattle.run_upload.specs.declared.LoadStop.{LoadStop}
+use Rattle.run_upload.specs.declared.LoadStopError.{LoadStopError}
+use Rattle.std.specs.Prelude.{Result}
 use Rattle.std.specs.declared.ops.ControlFlow.TheVariants.{Continue, Break}
 
 module _ (v : Variety) (config : MockDeviceConfig) (n : ℕ) where
@@ -61,7 +62,7 @@ module _ (v : Variety) (config : MockDeviceConfig) (n : ℕ) where
   runs_make image (suc budget) s made =
       follow_makes (load_turn image s) (λ next. runs (load_turn image) budget next) (turn_makes image s made) (λ next on. runs_make image budget next on)
 
-  turned_makes : (t : ControlFlow LoadStop Unit) (s : LoadState) → Turns (turn_told t s) → Made v config n s.device
+  turned_makes : (t : ControlFlow (Result Unit LoadStopError) Unit) (s : LoadState) → Turns (turn_told t s) → Made v config n s.device
   unfolding turn_told
   turned_makes (Continue u) s made = made
   turned_makes (Break stop) s made = made

@@ -31,8 +31,8 @@ use Rattle.theorems.proofs.UploadSteps.{whole_upload_ends}
 use Rattle.theorems.proofs.UploadRefusals.{append_long}
 use Rattle.theorems.proofs.CheckedRuns.{spent_met, checked_resumed, checked_whole}
 use Rattle.std.specs.Prelude.{Result}
-use Rattle.run_upload.specs.declared.LoadStop.{LoadStop}
-use Rattle.rule_number.specs.declared.OutOfSteps.{OutOfSteps}
+use Rattle.run_upload.specs.declared.LoadError.{LoadError}
+use Rattle.run_upload.specs.declared.LoadError.TheVariants.{OutOfSteps}
 use Rattle.std.specs.declared.result.Result.TheVariants.{Ok, Err}
 
 -- what the look at is as it was
@@ -143,11 +143,11 @@ load_length image flash a s e =
     ∙ (loads_kept image a s).image
 
 module _ (first second whole : LoadRun) (device : MockState) (image store store₁ store₂ store₃ : List ℕ) (flash a : ℕ)
-    (out : first.answer ≡ (Err (record {}))) where
+    (out : first.answer ≡ Err OutOfSteps) where
   load_spent : (u : WholeUpload) → loaded.RunMeets first store₁ (load_run image flash a (load_state u device store))
       → (load_run image flash a (load_state u device store)).end ≡ out_of_steps
   unfolding loaded.answer_end
-  load_spent u m = sym m.tells ∙ ap (λ (x : Result LoadStop OutOfSteps). loaded.answer_end x) out
+  load_spent u m = sym m.tells ∙ ap (λ (x : Result Unit LoadError). loaded.answer_end x) out
 
   load_joins : (b all : ℕ) (u : WholeUpload)
       → (let s = load_state u device store in

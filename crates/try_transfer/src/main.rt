@@ -6,17 +6,16 @@
 use operation::starts::write_lba;
 use operation::steps::{UsbOperation, UsbStep};
 use operation_finish::{FinishAnswer, SectorTransfer, UsbReply};
-use replay_lines::buffer::{between, within};
-use replay_lines::data::data;
-use replay_lines::input::{Input, next_line, start};
-use replay_lines::line::{Token, U32, U64, after, byte_at, is_end, number};
-use std::io::{Read, Result, Write};
+use replay_lines::buffer::first;
+use replay_lines::input::Input;
+use replay_lines::tokens::Tokens;
+use std::io::{Result, Write};
 
 // the sector data that there is to lend
 const ROOM: usize = 65536;
 
 // a status
-const STATUS: u64 = 13;
+const STATUS: usize = 13;
 
 // no write has more steps than command, data, status and finish
 const STEPS: usize = 4;
@@ -24,16 +23,12 @@ const STEPS: usize = 4;
 // "out of steps"
 const OUT_OF_STEPS: u8 = 28;
 
-// a line's buffer, without the space that stands before every line
-const LONGEST: usize = 127;
-
-// What a line says: the tag, the bytes asked, how many bytes of status came, and whether it could be read.
+// What a line says: the tag, the bytes asked, and how many bytes of status came.
 #[derive(Clone, Copy)]
 struct Asked {
     tag: u32,
     size: usize,
     came: usize,
-    is_read: bool,
 }
 
 // A step of an operation, and the operation after it.
@@ -43,28 +38,20 @@ struct Turned {
     next: UsbOperation,
 }
 
-fn print<W: Write>(to: &mut W, text: &[u8]) -> Result<()> {
-    to.write_all(text)
-}
-
-fn print_number<W: Write>(to: &mut W, before: &[u8], number: u64, behind: &[u8]) -> Result<()> {
-    print(to, before)?;
-    write!(to, "{number}")?;
-    print(to, behind)
-}
-
 fn print_refused<W: Write>(to: &mut W, number: u8) -> Result<()> {
-    print_number(to, b"refused: ", number as u64, b"\n")
+    writeln!(to, "refused: {number}")
 }
 
 fn print_transfer<W: Write>(to: &mut W, transfer: SectorTransfer) -> Result<()> {
     match transfer {
         SectorTransfer::Whole(moved) => {
-            print_number(to, b"whole: ", moved.0 as u64, b" bytes moved\n")
+            let moved = moved.0;
+            writeln!(to, "whole: {moved} bytes moved")
         }
         SectorTransfer::Short(short) => {
-            print_number(to, b"short: ", short.moved.0 as u64, b" of ")?;
-            print_number(to, b"", short.asked.0 as u64, b" bytes moved\n")
+            let moved = short.moved.0;
+            let asked = short.asked.0;
+            writeln!(to, "short: {moved} of {asked} bytes moved")
         }
     }
 }
@@ -79,7 +66,7 @@ fn print_last<W: Write>(to: &mut W, step: UsbStep) -> Result<()> {
     };
     let UsbReply::Sectors(transfer) = reply else {
         // a write has no other reply
-        return print(to, b"no transfer\n");
+        return to.write_all(b"no transfer\n");
     };
     print_transfer(to, transfer)
 }
@@ -130,87 +117,55 @@ fn tell<W: Write>(
     status: &[u8],
     sectors: &mut [u8; 65536],
 ) -> Result<()> {
-    if !asked.is_read {
-        return print(to, b"unreadable line\n");
-    }
     let start = write_lba(asked.tag, 0, asked.size);
-    let answer = start.answer;
-    let number = answer.number();
+    let number = start.answer.number();
     if number != 0 {
         return print_refused(to, number);
     }
     if asked.size > ROOM {
-        return print(to, b"not tried: above 65536 bytes\n");
+        return to.write_all(b"not tried: above 65536 bytes\n");
     }
-    carry_out(to, start.operation, status, sectors)
+    carry_out(to, start.operation, first(asked.came, status), sectors)
 }
 
-// ` TAG ASKED STATUS`
-fn read_line(line: &[u8], status: &mut [u8]) -> Asked {
-    let begin = Token {
-        value: 0,
-        at: 0,
-        ok: true,
-    };
-    let tag = number(line, begin, U32);
-    let size = number(line, tag, U64);
-    let is_spelled = byte_at(line, after(size.at, 1)) == b'x';
-    let came = data(line, size, STATUS, status);
-    Asked {
-        tag: tag.as_u32(),
-        size: size.as_usize(),
-        came: came.as_usize(),
-        is_read: is_spelled && came.value <= STATUS && is_end(line, came),
+// `TAG ASKED STATUS`, the status spelled out, to a lent buffer.
+fn read_line(line: &[u8], status: &mut [u8]) -> Option<Asked> {
+    let mut tokens = Tokens::new(line);
+    let tag = u32::try_from(tokens.first_number()?).ok()?;
+    let size = tokens.at_most(usize::MAX)?;
+    tokens.gap()?;
+    if tokens.byte()? != b'x' {
+        return None;
+    }
+    let came = tokens.spelled(status);
+    tokens.end()?;
+    if came <= STATUS {
+        Some(Asked { tag, size, came })
+    } else {
+        None
     }
 }
 
 fn answer_line<W: Write>(to: &mut W, line: &[u8], sectors: &mut [u8; 65536]) -> Result<()> {
-    // a byte more than a status has, so that a longer one is seen
-    let mut status = [0u8; 14];
-    let asked = read_line(line, &mut status);
-    tell(to, asked, between(&status, 0, asked.came), sectors)
-}
-
-// The next line, behind the space that every number is read behind.
-fn next_spaced<R: Read>(
-    from: &mut R,
-    block: &mut [u8; 65536],
-    line: &mut [u8],
-    before: Input,
-) -> Input {
-    let n = within(1, line);
-    next_line(from, block, &mut line[n..], before)
-}
-
-// A proved loop has to end, and nothing says that the input does: no run uses up so many turns.
-fn run<R: Read, W: Write>(
-    from: &mut R,
-    to: &mut W,
-    block: &mut [u8; 65536],
-    line: &mut [u8; 128],
-    sectors: &mut [u8; 65536],
-) -> Result<()> {
-    let mut input = start();
-    for _ in 0..u64::MAX {
-        input = next_spaced(from, block, line, input);
-        if input.is_over {
-            break;
-        }
-        let end = after(input.line_length(LONGEST), 1);
-        answer_line(to, between(line, 0, end), sectors)?;
+    let mut status = [0u8; 13];
+    match read_line(line, &mut status) {
+        Some(asked) => tell(to, asked, &status, sectors),
+        None => to.write_all(b"unreadable line\n"),
     }
-    Ok(())
 }
 
 fn main(rt: HostRuntime) -> Result<()> {
     let mut block = [0u8; 65536];
-    let mut line = [b' '; 128];
+    let mut line = [0u8; 127];
     let mut sectors = [0u8; 65536];
-    run(
-        &mut rt.stdin(),
-        &mut rt.stdout(),
-        &mut block,
-        &mut line,
-        &mut sectors,
-    )
+    let mut to = rt.stdout();
+    let mut input = Input::new(rt.stdin(), &mut block);
+    // a proved loop has to end, and nothing says that the input does: no run uses up so many turns
+    for _ in 0..u64::MAX {
+        let Some(line) = input.next_line(&mut line) else {
+            break;
+        };
+        answer_line(&mut to, line, &mut sectors)?;
+    }
+    Ok(())
 }

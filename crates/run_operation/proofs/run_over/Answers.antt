@@ -16,7 +16,6 @@ use Rattle.run_operation.specs.Code.{unstarted_by}
 use Rattle.run_operation.proofs.Checks.{device_unstarted, data_unstarted, flash_refused, store_refused, data_refused, unrefused, as_run, whole_size, refused_size, length_picked}
 use Rattle.promise.specs.Rules.{differs}
 use Rattle.run_operation.proofs.run_over.Goals as goal
-use Rattle.std.specs.declared.result.Result.TheVariants.{Ok, Err}
 
 pub returns-in-Err : goal.returns-in-Err
 returns-in-Err c =

@@ -6,7 +6,7 @@ pub returns : goal.returns
 returns c =
     let a = c.args in
     let run = c.run_whole-ran in
-    let v = c.operated-dealt in
+    let v = c.operated in
     let d = c.fresh_device in
     ran_at a.operation d.result a.flash.now a.«data».now a.counts.now d.ensures run.result v.result c.number.result run.new.flash
     run.new.data c.counts_after.result run.ensures v.ensures (c.counts_after.ensures v.result.beside) (c.number.ensures v.result.beside)

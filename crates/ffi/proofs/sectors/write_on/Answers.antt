@@ -8,7 +8,7 @@ pub returns : goal.returns
 returns c =
     let a = c.args in
     let run = c.run_whole_write-ran in
-    let v = c.operated-dealt in
+    let v = c.operated in
     let d = c.fresh_device in
     let bytes = lent_to a.operation.kind a.«data».now [] in
     ran_at a.operation d.result a.flash.now bytes a.counts.now d.ensures run.result v.result c.number.result run.new.flash bytes
