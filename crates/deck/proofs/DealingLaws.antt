@@ -3,7 +3,7 @@ use Rattle.std.proofs.Common.{◌≡◌, ℕ, ◌+◌, ◌-◌, ◌*◌, ◌/◌
 use lib.ListN.{length-replicate, replicate-append-replicate}
 use types.Run.{OneOf, miss}
 use denote.Enum.Declared.{tag_of}
-use Rattle.promise.specs.Told.{Told, number}
+use Rattle.promise.specs.Told.{Told}
 use Rattle.promise.specs.Rules.{or_refuse}
 use Rattle.protocol.specs.declared.CommandBlock.{CommandBlock}
 use Rattle.protocol_reply.specs.Sectors.{sectors_in}
@@ -19,15 +19,15 @@ use Rattle.run_turn.specs.Turn.{is_write, lent_to}
 use Rattle.mock.specs.declared.device.MockState.{MockState}
 use Rattle.deck_block.specs.declared.Request.{Request}
 use Rattle.deck_block.specs.declared.Request.TheVariants as request
-use Rattle.deck_block.specs.contracts.CardAnswer.{the_type}
 use Rattle.deck_block.specs.contracts.Request as requests
-use Rattle.deck_block.specs.Reading.{card_told, read_card}
+use Rattle.deck_block.specs.Reading.{card_error_number, card_told, read_card}
 use Rattle.deck.specs.declared.verdict.Dealt.{Dealt}
 use Rattle.deck.specs.Deal.{Head, head, away, turned_away, DealMeets}
 use Rattle.deck.proofs.VerdictLaws.{away_deal}
 use Rattle.deck.specs.Dealing.{operate, load_of, load, carry_out, deal_asked, deal_block}
 use Rattle.deck.specs.Code.{room, plain_start}
 use Rattle.std.specs.Prelude.{Result}
+use Rattle.rule_number.specs.Number.{number_of}
 use Rattle.deck_block.specs.declared.CardError.{CardError}
 use Rattle.std.specs.declared.result.Result.TheVariants.{Ok, Err}
 use Rattle.deck_block.specs.declared.CardError.TheVariants as card_error
@@ -114,20 +114,23 @@ asked_card card r flash store asked tag h e m =
     subst (λ (a : Result Request CardError). DealMeets r flash store (deal_asked tag (card_told a) h)) (sym e) m
 
 -- a block that asks for nothing is turned away by its number
-away_by : (card : Result Request CardError) → OneOf (1 ∷ 2 ∷ 3 ∷ 4 ∷ 5 ∷ 6 ∷ 7 ∷ []) (tag_of the_type card) → (tag : ℕ) (h : Head) → deal_asked tag (card_told card) h ≡ away (number (card_told card)) h
-unfolding deal_asked card_told number
-away_by (Ok asked) k tag h = absurd (miss (1 ∷ 2 ∷ 3 ∷ 4 ∷ 5 ∷ 6 ∷ 7 ∷ []) 0 tt k)
-away_by (Err card_error.Short) k tag h = refl
-away_by (Err card_error.BadCheck) k tag h = refl
-away_by (Err card_error.WithdrawnKind) k tag h = refl
-away_by (Err card_error.UnknownKind) k tag h = refl
-away_by (Err card_error.NotZero) k tag h = refl
-away_by (Err card_error.TooLarge) k tag h = refl
-away_by (Err card_error.UnknownReset) k tag h = refl
+away_by : (error : CardError) (tag : ℕ) (h : Head) → deal_asked tag (card_told (Err error)) h ≡ away (card_error_number error) h
+unfolding deal_asked card_told
+away_by card_error.Short tag h = refl
+away_by card_error.BadCheck tag h = refl
+away_by card_error.WithdrawnKind tag h = refl
+away_by card_error.UnknownKind tag h = refl
+away_by card_error.NotZero tag h = refl
+away_by card_error.TooLarge tag h = refl
+away_by card_error.UnknownReset tag h = refl
 
-pub refused_card : (card : Result Request CardError) → OneOf (1 ∷ 2 ∷ 3 ∷ 4 ∷ 5 ∷ 6 ∷ 7 ∷ []) (tag_of the_type card) → (r : Dealt) (tag : ℕ) (device : MockState) (flash store : List ℕ) (n : ℕ)
-    → n ≡ number (card_told card) → r ≡ turned_away n device → DealMeets r flash store (deal_asked tag (card_told card) (head device flash store))
-refused_card card k r tag device flash store n e m =
-    subst (DealMeets r flash store) (sym (away_by card k tag (head device flash store)))
-    (subst (λ (d : Dealt). DealMeets d flash store (away (number (card_told card)) (head device flash store))) (sym (m ∙ ap (λ (i : ℕ). turned_away i device) e))
-    (away_deal (number (card_told card)) device flash store))
+pub refused_card : (card : Result Request CardError) (error : CardError) → card ≡ Err error → (r : Dealt) (tag : ℕ) (device : MockState) (flash store : List ℕ) (n : ℕ)
+    → n ≡ number_of card_error_number card → r ≡ turned_away n device → DealMeets r flash store (deal_asked tag (card_told card) (head device flash store))
+refused_card card error is r tag device flash store n e m =
+    let h = head device flash store in
+    let away_so : deal_asked tag (card_told card) h ≡ away (card_error_number error) h =
+    ap (λ (a : Result Request CardError). deal_asked tag (card_told a) h) is ∙ away_by error tag h in
+    let told : n ≡ card_error_number error = e ∙ ap (number_of card_error_number) is in
+    subst (DealMeets r flash store) (sym away_so)
+    (subst (λ (d : Dealt). DealMeets d flash store (away (card_error_number error) h)) (sym (m ∙ ap (λ (i : ℕ). turned_away i device) told))
+    (away_deal (card_error_number error) device flash store))

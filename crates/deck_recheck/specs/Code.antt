@@ -3,12 +3,8 @@ use Rattle.std.specs.Prelude.{◌≡◌, ℕ, ◌+◌, ◌≤◌, Bool, List, le
 use Rattle.promise.specs.Rules.{pick}
 use Rattle.promise.specs.Over.{over}
 use Rattle.deck_block.specs.Block.{fields_of, first_check, with_check}
-use Rattle.deck_recheck.specs.declared.Stop.{Stop}
 use Rattle.deck_recheck.specs.declared.RecheckStep.{RecheckStep}
 use Rattle.deck_recheck.specs.Recheck.{standing, Written}
-
-abbrev pub step_at : ℕ → ℕ → Stop → ℕ → RecheckStep
-step_at number tag stop bytes = record { bytes = bytes; recheck = record { number = number; tag = tag; stop = stop } }
 
 -- whether a block's first check is right; where it is, the check with this tag stands in its place
 pub record BlockMeets (r : Bool) (after : List ℕ) (tag : ℕ) (block : List ℕ) : Type 0 where

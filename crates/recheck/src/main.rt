@@ -80,15 +80,15 @@ impl<R: Read + Drop, W: Write + Drop, E: Write + Drop> Run<R, W, E> {
     fn goes_on(&mut self, end: Option<End>) -> bool {
         let number = self.recheck.number;
         match self.recheck.stop {
-            Stop::BadCheck => {
+            Some(Stop::BadCheck) => {
                 say_bad_check(&mut self.errors, number);
                 false
             }
-            Stop::Short => {
+            Some(Stop::Short) => {
                 say_short(&mut self.errors, number);
                 false
             }
-            Stop::NotYet => {
+            None => {
                 if end == Some(End::Failed) {
                     say_unread(&mut self.errors, number);
                 }

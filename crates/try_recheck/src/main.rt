@@ -4,7 +4,7 @@
 
 use deck_io::input::read_full;
 use deck_io::within;
-use deck_recheck::{Recheck, RecheckStep, Stop};
+use deck_recheck::{Recheck, RecheckStep, stop_number};
 use std::io::{Result, Write};
 
 const BLOCK: usize = 512;
@@ -37,7 +37,7 @@ fn is_as_before(old: &[u8; 9316], new: &[u8; 9316], rechecked: usize) -> bool {
 }
 
 fn print_recheck<W: Write>(to: &mut W, recheck: Recheck) -> Result<()> {
-    let stop = recheck.stop.number();
+    let stop = stop_number(recheck.stop);
     writeln!(
         to,
         "block {}, tag {}, stop {stop}",
@@ -138,7 +138,7 @@ fn try_from<W: Write>(
     let recheck = Recheck {
         number,
         tag,
-        stop: Stop::NotYet,
+        stop: None,
     };
     writeln!(to, "\n{length} bytes behind")?;
     print_recheck(to, recheck)?;

@@ -18,7 +18,7 @@ pub returns-then-step-from : goal.returns-then-step-from
 returns-then-step-from c =
     let l = c.loop-from in
     let a = c.args in
-    stops_there a.chunk.now (standing a.self) (at l.from l.recheck) l.chunk l.invariant (let t = c.loop-from-test.true in let long = l.invariant.long in omega (arith, t, long))
+    stops_there a.chunk.now (standing a.self) (at l.from l.self) l.chunk l.invariant (let t = c.loop-from-test.true in let long = l.invariant.long in omega (arith, t, long))
     c.recheck_next-step.result _ c.recheck_next-step.ensures c.if-step-from.true
 
 -- with the block that was rechecked
@@ -30,14 +30,14 @@ module _ (c : Else-step-from) where
   further =
       let l = c.loop-from in
       let a = c.args in
-      goes_on a.chunk.now (standing a.self) (at l.from l.recheck) l.chunk l.invariant more c.recheck_next-step.result _
+      goes_on a.chunk.now (standing a.self) (at l.from l.self) l.chunk l.invariant more c.recheck_next-step.result _
       c.recheck_next-step.ensures c.if-step-from.false
 
   there : c.recheck_next-step.result.bytes ≡ c.loop-from.from + 512
   there =
       let l = c.loop-from in
       let a = c.args in
-      grew a.chunk.now (standing a.self) (at l.from l.recheck) l.chunk l.invariant more c.recheck_next-step.result _
+      grew a.chunk.now (standing a.self) (at l.from l.self) l.chunk l.invariant more c.recheck_next-step.result _
       c.recheck_next-step.ensures c.if-step-from.false
 
 pub loop-from-preserved : goal.loop-from-preserved
@@ -56,7 +56,7 @@ whole chunk₀ self n recheck chunk way last =
 pub returns : goal.returns
 returns c =
     let l = c.loop-from in
-    whole c.args.chunk.now c.args.self l.from l.recheck l.chunk l.invariant (let t = c.loop-from-test.false in let long = l.invariant.long in omega (arith, t, long))
+    whole c.args.chunk.now c.args.self l.from l.self l.chunk l.invariant (let t = c.loop-from-test.false in let long = l.invariant.long in omega (arith, t, long))
 
 pub returns-else-step-from : goal.returns-else-step-from
 returns-else-step-from c =

@@ -4,4 +4,4 @@ use Rattle.deck_recheck.proofs.Laws.{OnTheWay}
 use Rattle.deck_recheck.proofs.Recheck.recheck_chunk.Given as goal
 
 abbrev pub invariant-loop-from : goal.invariant-loop-from
-invariant-loop-from l = OnTheWay l.initial.chunk (standing l.initial.recheck) (record { bytes = l.from; recheck = l.recheck }) l.chunk
+invariant-loop-from l = OnTheWay l.initial.chunk (standing l.initial.self) (record { bytes = l.from; recheck = l.self }) l.chunk
