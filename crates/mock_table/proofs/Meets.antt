@@ -7,7 +7,7 @@ use Rattle.protocol_bytes.specs.Signature.{no_signature, signature_in}
 use Rattle.protocol.specs.CommandMeets.{CommandMeets, command_told, command_error_number, command_error_values}
 use Rattle.protocol.specs.declared.CommandBlock.{CommandBlock}
 use Rattle.protocol.specs.declared.CommandBlockParseError.{CommandBlockParseError}
-use Rattle.protocol.specs.declared.CommandParse.{CommandParse}
+use Rattle.protocol_bytes.specs.declared.signature.Parse.{Parse}
 use Rattle.mock_base.proofs.Telling.{answers_error, answers_done}
 use Rattle.mock_base.specs.Told.{error_told, error_values, result_told, inner_signature, signature_beside}
 use Rattle.mock_base.specs.declared.cells.Variety.{Variety}
@@ -34,7 +34,7 @@ unfolding done
 done_as state last effect e f = rw (e, f) (record { tells = answers_done; next = refl; effect = refl })
 
 -- 56: bytes that are no command
-pub block_refused_lem : {r : Outcome} (v : Variety) (block : ℕ) (parse : CommandParse) (told : Told CommandBlock) → CommandMeets parse told → (error : CommandBlockParseError)
+pub block_refused_lem : {r : Outcome} (v : Variety) (block : ℕ) (parse : Parse CommandBlock CommandBlockParseError) (told : Told CommandBlock) → CommandMeets parse told → (error : CommandBlockParseError)
     → parse.answer ≡ Err error → (last : Option ResetOpcode) (sectors : ℕ) → r ≡ block_refused last error parse.signature
     → OutcomeMeets r (start_turn v block told last sectors)
 unfolding start_turn refuses result_told error_values signature_beside inner_signature command_told signature_in

@@ -12,7 +12,8 @@ use super::ways::{splits, switched, switches};
 use mock_base::cells::Variety;
 use mock_base::error::{MockAnswer, MockTransportError};
 use mock_base::range::flash_range;
-use protocol::{CommandBlock, CommandBlockParseError, CommandParse};
+use protocol::{CommandBlock, CommandBlockParseError};
+use protocol_bytes::signature::Parse;
 use protocol_codes::{CommandCode, Direction, ResetOpcode, Status};
 
 #[tactic(auto, unfolding(crate::specs::Turn::is_erase))]
@@ -114,7 +115,7 @@ fn start_command(
 ) -> Outcome
     ensures { OutcomeMeets result (start_turn variety block_size (read_command «data».now) reset sectors) }
 {
-    let CommandParse { answer, signature } = CommandBlock::from_bytes(data);
+    let Parse { answer, signature } = CommandBlock::from_bytes(data);
     let command = match answer {
         Ok(command) => command,
         Err(error) => return refuse_block(reset, error, signature),

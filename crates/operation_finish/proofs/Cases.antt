@@ -13,7 +13,7 @@ use Rattle.protocol_status.specs.Failure.{failure_number, failure_values, failur
 use Rattle.protocol_status.specs.declared.report.CommandStatus.{CommandStatus}
 use Rattle.protocol_status.specs.declared.report.CommandStatusParseError.{CommandStatusParseError}
 use Rattle.protocol_status.specs.declared.report.CommandStatusParseError.TheVariants.{InvalidSignature, InvalidLength, InvalidStatus}
-use Rattle.protocol_status.specs.declared.report.StatusParse.{StatusParse}
+use Rattle.protocol_bytes.specs.declared.signature.Parse.{Parse}
 use Rattle.protocol_status.specs.declared.failure.UsbOperationError.{UsbOperationError}
 use Rattle.protocol_status.specs.declared.failure.UsbOperationError.TheVariants.{TagMismatch, ReplyParseFailure, FailedStatus}
 use Rattle.operation_finish.specs.declared.Kind.{Kind}
@@ -51,7 +51,7 @@ unread_meets InvalidSignature failure g rest h e = record { tells = told_of _ _ 
 unread_meets (InvalidLength n) failure g rest h e = record { tells = told_of _ _ _ _ (h g); beside = ap blank e }
 unread_meets (InvalidStatus byte) failure g rest h e = record { tells = told_of _ _ _ _ (h g); beside = ap blank e }
 
-pub unread : (p : StatusParse) (told : Told CommandStatus) (error : CommandStatusParseError) (failure : UsbOperationError) → StatusMeets p told
+pub unread : (p : Parse CommandStatus CommandStatusParseError) (told : Told CommandStatus) (error : CommandStatusParseError) (failure : UsbOperationError) → StatusMeets p told
     → p.answer ≡ Err error → ((h : List ℕ) → failure_told failure h ≡ at_finish (status_error_told error h)) → (rest : CommandStatus → Told Reply)
     → FinishMeets (failed_with failure p.signature) (and_then (at_finish told) rest)
 unfolding status_told

@@ -13,7 +13,8 @@ use Rattle.protocol_bytes.specs.Signature.{signature_in, no_signature}
 use Rattle.protocol_bytes.specs.Writing.{writing, WriteMeets}
 use Rattle.protocol_bytes.proofs.Short.{elements, field_elements}
 use Rattle.protocol.specs.declared.CommandBlock.{CommandBlock}
-use Rattle.protocol.specs.declared.CommandParse.{CommandParse}
+use Rattle.protocol_bytes.specs.declared.signature.Parse.{Parse}
+use Rattle.protocol.specs.declared.CommandBlockParseError.{CommandBlockParseError}
 use Rattle.protocol.specs.CommandBytes.{command_bytes, block_of, read_command, write_command, BlockFits, Alike}
 use Rattle.protocol.specs.CommandMeets.{CommandMeets, command_told}
 use Rattle.protocol.proofs.Trips.{reads_back}
@@ -34,7 +35,7 @@ long_enough b before after w room wrote = wrote.leaves ∙ rw (le-ltb (length be
 
 -- `to_bytes` of a block into a buffer of at least 31 bytes, whatever it held, and then `from_bytes` of that buffer: the block, and no
 -- signature. That the block fits is a part of the contract of `to_bytes`.
-pub block_reads_back : (b : CommandBlock) (before after : List ℕ) (w : Result ℕ OutputTooShort) (r : CommandParse) → 31 ≤ length before
+pub block_reads_back : (b : CommandBlock) (before after : List ℕ) (w : Result ℕ OutputTooShort) (r : Parse CommandBlock CommandBlockParseError) → 31 ≤ length before
     → WriteMeets w before after (write_command b (length before)) → BlockFits b → CommandMeets r (read_command after)
     → r ≡ record { answer = Ok b; signature = no_signature }
 block_reads_back b before after w r room wrote fits read =
@@ -81,5 +82,5 @@ module _ (bytes others : List ℕ) (long : 31 ≤ length bytes) (also : 31 ≤ l
       refl
 
   -- reading looks at no byte of 21 and of 24 and on: such inputs, of any two lengths, get the same answer, with the same signature beside it
-  pub no_other_byte_read : (r s : CommandParse) → CommandMeets r (read_command bytes) → CommandMeets s (read_command others) → r ≡ s
+  pub no_other_byte_read : (r s : Parse CommandBlock CommandBlockParseError) → CommandMeets r (read_command bytes) → CommandMeets s (read_command others) → r ≡ s
   no_other_byte_read r s read also-read = command_unique (read_command others) r s (rw same_told at read) also-read

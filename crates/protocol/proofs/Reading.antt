@@ -14,11 +14,12 @@ use Rattle.protocol_codes.specs.declared.CommandCode.{CommandCode}
 use Rattle.protocol_codes.proofs.Reading.{known_refused}
 use Rattle.protocol_bytes.specs.Signature.{usbc, same, signature_in}
 use Rattle.protocol.specs.declared.CommandBlock.{CommandBlock}
-use Rattle.protocol.specs.declared.CommandParse.{CommandParse}
+use Rattle.protocol_bytes.specs.declared.signature.Parse.{Parse}
+use Rattle.protocol.specs.declared.CommandBlockParseError.{CommandBlockParseError}
 use Rattle.protocol.specs.declared.CommandBlockParseError.TheVariants.{InvalidSignature, UnknownCommandCode, UnknownFlags, InvalidLength}
 use Rattle.protocol.specs.CommandBytes.{block_of, read_command}
 use Rattle.protocol.specs.CommandMeets.{command_error_number, command_error_values, command_told, CommandMeets}
-use Rattle.protocol.specs.Code.{parsed}
+use Rattle.protocol_bytes.specs.Signature.{parsed}
 use Rattle.std.specs.declared.result.Result.TheVariants.{Ok, Err}
 
 -- the block, once its length and signature are right
@@ -40,7 +41,7 @@ module _ (bytes : List ℕ) where
   unfolding read_command or_refuse read_fields
   read_signed enough own = rw (le-ltb (length bytes) 31 enough, own) refl
 
-  module _ (r : CommandParse) where
+  module _ (r : Parse CommandBlock CommandBlockParseError) where
     pub meets_short : length bytes < 31 → r ≡ parsed (Err (InvalidLength (length bytes))) → CommandMeets r (read_command bytes)
     unfolding command_told command_error_number command_error_values signature_in
     meets_short few e = rw (read_short few, e) (record { tells = refl; signature = refl })

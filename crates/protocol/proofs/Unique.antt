@@ -9,7 +9,7 @@ use Rattle.promise.specs.Rules.{pick}
 use Rattle.protocol.specs.declared.CommandBlock.{CommandBlock}
 use Rattle.protocol.specs.declared.CommandBlockParseError.{CommandBlockParseError}
 use Rattle.protocol.specs.declared.CommandBlockParseError.TheVariants.{InvalidSignature, UnknownCommandCode, UnknownFlags, InvalidLength}
-use Rattle.protocol.specs.declared.CommandParse.{CommandParse}
+use Rattle.protocol_bytes.specs.declared.signature.Parse.{Parse}
 use Rattle.rule_number.specs.Number.{number_of}
 use Rattle.protocol.specs.CommandMeets.{command_error_number, command_error_values, command_told, CommandMeets}
 use Rattle.std.specs.Prelude.{Result}
@@ -36,7 +36,7 @@ unfolding command_told
 answer_of_lem (Ok b) signature = refl
 answer_of_lem (Err e) signature = ap Err (command_error_of_lem e signature)
 
-pub command_unique : (told : Told CommandBlock) (r s : CommandParse) → CommandMeets r told → CommandMeets s told → r ≡ s
+pub command_unique : (told : Told CommandBlock) (r s : Parse CommandBlock CommandBlockParseError) → CommandMeets r told → CommandMeets s told → r ≡ s
 command_unique told r s p q =
     let answers : r.answer ≡ s.answer =
     sym (answer_of_lem r.answer r.signature) ∙ ap answer_of (p.tells ∙ sym q.tells) ∙ answer_of_lem s.answer s.signature in

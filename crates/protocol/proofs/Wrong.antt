@@ -18,7 +18,8 @@ use Rattle.protocol_codes.specs.declared.StorageIndex.{StorageIndex}
 use Rattle.protocol_bytes.specs.Signature.{no_signature}
 use Rattle.protocol_bytes.specs.Writing.{writing, written_told, WriteMeets}
 use Rattle.protocol.specs.declared.CommandBlock.{CommandBlock}
-use Rattle.protocol.specs.declared.CommandParse.{CommandParse}
+use Rattle.protocol_bytes.specs.declared.signature.Parse.{Parse}
+use Rattle.protocol.specs.declared.CommandBlockParseError.{CommandBlockParseError}
 use Rattle.protocol.specs.declared.CommandBlockParseError.TheVariants.{InvalidSignature, InvalidLength, UnknownFlags, UnknownCommandCode}
 use Rattle.protocol.specs.Commands.{flash_id_command, flash_info_command, capability_command, chip_info_command, storage_command, erase_lba_command, erase_force_command, read_lba_command, write_lba_command, reset_command, switch_command}
 use Rattle.protocol.specs.CommandBytes.{command_bytes, read_command, write_command}
@@ -46,12 +47,12 @@ read_sent : read_command sent ≡ given one
 read_sent = reads_back one (replicate 7 0) (record { tag = lit< tt; transfer = lit< tt; address = lit< tt; count = lit< tt }) (lit≤ tt)
 
 -- a reader that refuses everything, whatever it tells
-pub always_refusing : (r : CommandParse) (n : ℕ) (values : List ℕ) → command_told r.answer r.signature ≡ refused n values
+pub always_refusing : (r : Parse CommandBlock CommandBlockParseError) (n : ℕ) (values : List ℕ) → command_told r.answer r.signature ≡ refused n values
     → CommandMeets r (read_command sent) → ⊥
 always_refusing r n values told meets = let z : ◌≡◌ {A = ℕ} 0 1 = cc (meets.tells, read_sent) in omega arith
 
 -- a reader with one answer for all
-pub fixed_answer : (r : CommandParse) → CommandMeets r (read_command []) → CommandMeets r (read_command sent) → ⊥
+pub fixed_answer : (r : Parse CommandBlock CommandBlockParseError) → CommandMeets r (read_command []) → CommandMeets r (read_command sent) → ⊥
 fixed_answer r none some = always_refusing r 1 (0 ∷ []) (none.tells ∙ read_short [] (lit< tt)) some
 
 -- a writer that writes one block for all
@@ -176,7 +177,7 @@ accessor_of_another_field = (
 )
 
 -- a reader for which fewer than 31 bytes are enough
-pub fewer_bytes_read : (bytes : List ℕ) (r : CommandParse) (b : CommandBlock) → length bytes < 31 → command_told r.answer r.signature ≡ given b
+pub fewer_bytes_read : (bytes : List ℕ) (r : Parse CommandBlock CommandBlockParseError) (b : CommandBlock) → length bytes < 31 → command_told r.answer r.signature ≡ given b
     → CommandMeets r (read_command bytes) → ⊥
 fewer_bytes_read bytes r b few told meets = let z : ◌≡◌ {A = ℕ} 0 1 = cc (meets.tells, read_short bytes few) in omega arith
 
@@ -186,7 +187,7 @@ lun_in (given b) = b.lun
 lun_in (refused n values) = 0
 
 -- a reader that takes the lun from the byte beside, where the CDB length stands
-pub lun_read_beside : (r : CommandParse) (b : CommandBlock) → b.lun ≡ one.cdb_length → command_told r.answer r.signature ≡ given b
+pub lun_read_beside : (r : Parse CommandBlock CommandBlockParseError) (b : CommandBlock) → b.lun ≡ one.cdb_length → command_told r.answer r.signature ≡ given b
     → CommandMeets r (read_command sent) → ⊥
 lun_read_beside r b beside told meets =
     let differ : b.lun ≡ one.lun = ap lun_in (sym told ∙ meets.tells ∙ read_sent) in omega arith

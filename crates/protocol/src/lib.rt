@@ -6,7 +6,6 @@ ghost use Rattle.std.specs.Prelude.{◌≡◌, List, ℕ, ◌≤◌, length};
 ghost use Rattle.protocol.specs.Commands.{reply_command, opcode_command, sector_command, flash_id_command, flash_info_command, capability_command, chip_info_command, storage_command, erase_lba_command, erase_force_command, read_lba_command, write_lba_command, reset_command, switch_command};
 ghost use Rattle.protocol.specs.CommandBytes.{BlockFits, command_bytes, block_of, read_command, write_command};
 ghost use Rattle.protocol.specs.CommandMeets.{CommandMeets, command_error_number, command_told};
-ghost use Rattle.protocol.specs.Code.{parsed};
 ghost use Rattle.promise.specs.Told.{number};
 ghost use Rattle.protocol_bytes.specs.Writing.{WriteMeets};
 
@@ -15,7 +14,7 @@ use protocol_bytes::order::{
     u16_from_be_bytes, u16_to_be_bytes, u32_from_be_bytes, u32_from_le_bytes, u32_to_be_bytes,
     u32_to_le_bytes,
 };
-use protocol_bytes::signature::starts_with;
+use protocol_bytes::signature::{Parse, parsed, starts_with};
 use protocol_codes::{
     CommandCode, Direction, ResetOpcode, StorageIndex, UnknownCode, UnknownDirection,
 };
@@ -66,13 +65,6 @@ impl RuleNumber for CommandBlockParseError {
             CommandBlockParseError::UnknownCommandCode(_) => 4,
         }
     }
-}
-
-#[derive(Clone, Copy, Debug, PartialEq, Eq)]
-pub struct CommandParse {
-    pub answer: Result<CommandBlock, CommandBlockParseError>,
-    // the four bytes of an invalid signature, zeros otherwise
-    pub signature: [u8; 4],
 }
 
 // A request for `length` bytes of reply.
@@ -130,16 +122,6 @@ fn sector_command(
         cd_opcode: 0,
         cd_address: first,
         cd_length: count,
-    }
-}
-
-// An answer that has no signature to tell.
-fn parsed(answer: Result<CommandBlock, CommandBlockParseError>) -> CommandParse
-    ensures { result ≡ parsed answer }
-{
-    CommandParse {
-        answer,
-        signature: [0, 0, 0, 0],
     }
 }
 
@@ -346,14 +328,14 @@ impl CommandBlock {
         Ok(COMMAND_BLOCK_BYTES)
     }
 
-    pub fn from_bytes(bytes: &[u8]) -> CommandParse
+    pub fn from_bytes(bytes: &[u8]) -> Parse<CommandBlock, CommandBlockParseError>
         ensures { CommandMeets result (read_command bytes.now) }
     {
         if bytes.len() < COMMAND_BLOCK_BYTES {
             return parsed(Err(CommandBlockParseError::InvalidLength(bytes.len())));
         }
         if !starts_with(bytes, SIGNATURE) {
-            return CommandParse {
+            return Parse {
                 answer: Err(CommandBlockParseError::InvalidSignature),
                 signature: [bytes[0], bytes[1], bytes[2], bytes[3]],
             };

@@ -7,7 +7,9 @@ use native.Mathlib.Omega.{arith}
 use lib.ListN.{get_or, length, take}
 use Rattle.promise.specs.Told.{number}
 use Rattle.promise.specs.Bytes.{low_first, high_first, from_low, from_high}
-use Rattle.protocol_bytes.specs.Signature.{usbc, usbs, same}
+use Rattle.protocol_bytes.specs.Signature.{usbc, usbs, same, parsed}
+use Rattle.protocol_bytes.specs.declared.signature.Parse.{Parse}
+use Rattle.std.specs.Prelude.{Result}
 use Rattle.protocol_bytes.specs.Writing.{written_told}
 use Rattle.std.specs.declared.result.Result.TheVariants.{Ok, Err}
 
@@ -87,3 +89,8 @@ one_number r n e f = omega arith
 pub count_for_number : 31 ≡ number (written_told (Ok 31)) → ⊥
 unfolding number written_told
 count_for_number e = omega arith
+
+-- an answer with one fixed signature beside it that isn't zeros
+pub signature_for_none : {A E : Type 0} (r : Parse A E) (answer : Result A E) → r ≡ parsed answer → get_or r.signature 0 0 ≡ 0x55 → ⊥
+signature_for_none {A} {E} r answer e f =
+    let z : ◌≡◌ {A = ℕ} 0 0x55 = sym (ap (λ (p : Parse A E). get_or p.signature 0 0) e) ∙ f in omega arith

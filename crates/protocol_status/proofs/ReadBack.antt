@@ -9,7 +9,8 @@ use Rattle.promise.specs.Bytes.{low_first, high_first}
 use Rattle.protocol_bytes.specs.Signature.{no_signature, signature_in}
 use Rattle.protocol_bytes.specs.Writing.{writing, WriteMeets}
 use Rattle.protocol_status.specs.declared.report.CommandStatus.{CommandStatus}
-use Rattle.protocol_status.specs.declared.report.StatusParse.{StatusParse}
+use Rattle.protocol_bytes.specs.declared.signature.Parse.{Parse}
+use Rattle.protocol_status.specs.declared.report.CommandStatusParseError.{CommandStatusParseError}
 use Rattle.protocol_status.specs.StatusBytes.{status_bytes, read_status, write_status, StatusFits}
 use Rattle.protocol_status.specs.StatusMeets.{StatusMeets, status_told}
 use Rattle.protocol_status.proofs.Trips.{reads_back}
@@ -30,7 +31,7 @@ long_enough s before after w room wrote = wrote.leaves ∙ rw (le-ltb (length be
 
 -- `to_bytes` of a status into a buffer of at least 13 bytes, whatever it held, and then `from_bytes` of that buffer: the status, and no signature. That
 -- the status fits is a part of the contract of `to_bytes`.
-pub status_reads_back : (s : CommandStatus) (before after : List ℕ) (w : Result ℕ OutputTooShort) (r : StatusParse) → 13 ≤ length before
+pub status_reads_back : (s : CommandStatus) (before after : List ℕ) (w : Result ℕ OutputTooShort) (r : Parse CommandStatus CommandStatusParseError) → 13 ≤ length before
     → WriteMeets w before after (write_status s (length before)) → StatusFits s → StatusMeets r (read_status after)
     → r ≡ record { answer = Ok s; signature = no_signature }
 status_reads_back s before after w r room wrote fits read =

@@ -17,11 +17,12 @@ use Rattle.protocol_codes.specs.declared.Status.{Status}
 use Rattle.protocol_codes.proofs.Reading.{known_refused}
 use Rattle.protocol_bytes.specs.Signature.{usbs, same, signature_in}
 use Rattle.protocol_status.specs.declared.report.CommandStatus.{CommandStatus}
-use Rattle.protocol_status.specs.declared.report.StatusParse.{StatusParse}
+use Rattle.protocol_bytes.specs.declared.signature.Parse.{Parse}
+use Rattle.protocol_status.specs.declared.report.CommandStatusParseError.{CommandStatusParseError}
 use Rattle.protocol_status.specs.declared.report.CommandStatusParseError.TheVariants.{InvalidSignature, InvalidLength, InvalidStatus}
 use Rattle.protocol_status.specs.StatusBytes.{report_of, read_status}
 use Rattle.protocol_status.specs.StatusMeets.{status_error_told, status_told, StatusMeets}
-use Rattle.protocol_status.specs.Code.{parsed}
+use Rattle.protocol_bytes.specs.Signature.{parsed}
 use Rattle.std.specs.declared.result.Result.TheVariants.{Ok, Err}
 
 module _ (bytes : List ℕ) where
@@ -38,7 +39,7 @@ module _ (bytes : List ℕ) where
   unfolding read_status or_refuse
   read_signed enough own = rw (le-ltb (length bytes) 13 enough, own) refl
 
-  module _ (r : StatusParse) where
+  module _ (r : Parse CommandStatus CommandStatusParseError) where
     pub meets_short : length bytes < 13 → r ≡ parsed (Err (InvalidLength (length bytes))) → StatusMeets r (read_status bytes)
     unfolding status_told status_error_told signature_in
     meets_short few e = rw (read_short few, e) (record { tells = refl; signature = refl })

@@ -8,14 +8,14 @@ use Rattle.promise.specs.Told.{Told, given, refused, number}
 use Rattle.promise.specs.Rules.{pick}
 use Rattle.protocol_status.specs.declared.report.CommandStatus.{CommandStatus}
 use Rattle.protocol_status.specs.declared.report.CommandStatusParseError.TheVariants.{InvalidSignature, InvalidLength, InvalidStatus}
-use Rattle.protocol_status.specs.declared.report.StatusParse.{StatusParse}
+use Rattle.protocol_bytes.specs.declared.signature.Parse.{Parse}
+use Rattle.protocol_status.specs.declared.report.CommandStatusParseError.{CommandStatusParseError}
 use Rattle.protocol_status.specs.declared.failure.UsbOperationError.{UsbOperationError}
 use Rattle.protocol_status.specs.declared.failure.UsbOperationError.TheVariants.{TagMismatch, InvalidStatusSignature, InvalidStatusStatus, InvalidStatusLength, ReplyParseFailure, FailedStatus}
 use Rattle.rule_number.specs.Number.{number_of}
 use Rattle.protocol_status.specs.StatusMeets.{status_error_number, status_error_told, status_told, StatusMeets}
 use Rattle.protocol_status.specs.Failure.{failure_number, failure_values, failure_told}
 use Rattle.std.specs.Prelude.{Result}
-use Rattle.protocol_status.specs.declared.report.CommandStatusParseError.{CommandStatusParseError}
 use Rattle.std.specs.declared.result.Result.TheVariants.{Ok, Err}
 
 abbrev answer_of : Told CommandStatus → (Result CommandStatus CommandStatusParseError)
@@ -30,7 +30,7 @@ answer_of_lem (Err (InvalidLength n)) signature = refl
 answer_of_lem (Err InvalidSignature) signature = refl
 answer_of_lem (Err (InvalidStatus byte)) signature = refl
 
-pub status_unique : (told : Told CommandStatus) (r s : StatusParse) → StatusMeets r told → StatusMeets s told → r ≡ s
+pub status_unique : (told : Told CommandStatus) (r s : Parse CommandStatus CommandStatusParseError) → StatusMeets r told → StatusMeets s told → r ≡ s
 status_unique told r s p q =
     let answers : r.answer ≡ s.answer =
     sym (answer_of_lem r.answer r.signature) ∙ ap answer_of (p.tells ∙ sym q.tells) ∙ answer_of_lem s.answer s.signature in

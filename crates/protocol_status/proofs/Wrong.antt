@@ -12,7 +12,8 @@ use Rattle.protocol_codes.specs.declared.Status.TheVariants.{SUCCESS}
 use Rattle.protocol_bytes.specs.Signature.{usbs, no_signature}
 use Rattle.protocol_bytes.specs.Writing.{writing, written_told, WriteMeets}
 use Rattle.protocol_status.specs.declared.report.CommandStatus.{CommandStatus}
-use Rattle.protocol_status.specs.declared.report.StatusParse.{StatusParse}
+use Rattle.protocol_bytes.specs.declared.signature.Parse.{Parse}
+use Rattle.protocol_status.specs.declared.report.CommandStatusParseError.{CommandStatusParseError}
 use Rattle.protocol_status.specs.StatusBytes.{status_bytes, read_status, write_status}
 use Rattle.protocol_status.specs.declared.report.CommandStatusParseError.TheVariants.{InvalidSignature, InvalidLength, InvalidStatus}
 use Rattle.protocol_status.specs.declared.failure.UsbOperationError.{UsbOperationError}
@@ -39,12 +40,12 @@ read_sent : read_status sent ≡ given (tagged 1)
 read_sent = reads_back (tagged 1) [] (record { tag = lit< tt; residue = lit< tt })
 
 -- a reader that refuses everything, whatever it tells
-pub always_refusing : (r : StatusParse) (n : ℕ) (values : List ℕ) → status_told r.answer r.signature ≡ refused n values
+pub always_refusing : (r : Parse CommandStatus CommandStatusParseError) (n : ℕ) (values : List ℕ) → status_told r.answer r.signature ≡ refused n values
     → StatusMeets r (read_status sent) → ⊥
 always_refusing r n values told meets = let z : ◌≡◌ {A = ℕ} 0 1 = cc (meets.tells, read_sent) in omega arith
 
 -- a reader with one answer for all
-pub fixed_answer : (r : StatusParse) → StatusMeets r (read_status []) → StatusMeets r (read_status sent) → ⊥
+pub fixed_answer : (r : Parse CommandStatus CommandStatusParseError) → StatusMeets r (read_status []) → StatusMeets r (read_status sent) → ⊥
 fixed_answer r none some = always_refusing r 5 (0 ∷ []) (none.tells ∙ read_short [] (lit< tt)) some
 
 -- a writer that writes one block for all
@@ -59,7 +60,7 @@ unfolding write_status writing status_bytes low_first high_first
 doing_nothing r meets = let differ : ◌≡◌ {A = ℕ} 0 0x55 = ap (λ (l : List ℕ). get_or l 0 0) meets.leaves in omega arith
 
 -- a reader for which fewer than 13 bytes are enough
-pub fewer_bytes_read : (bytes : List ℕ) (r : StatusParse) (s : CommandStatus) → length bytes < 13 → status_told r.answer r.signature ≡ given s
+pub fewer_bytes_read : (bytes : List ℕ) (r : Parse CommandStatus CommandStatusParseError) (s : CommandStatus) → length bytes < 13 → status_told r.answer r.signature ≡ given s
     → StatusMeets r (read_status bytes) → ⊥
 fewer_bytes_read bytes r s few told meets = let z : ◌≡◌ {A = ℕ} 0 1 = cc (meets.tells, read_short bytes few) in omega arith
 
@@ -69,7 +70,7 @@ residue_in (given s) = s.residue
 residue_in (refused n values) = 0
 
 -- a reader that takes the residue in the other order: at residue 1 it gives 16,777,216
-pub residue_in_the_other_order : (r : StatusParse) → status_told r.answer r.signature ≡ given (record { tag = 1; residue = 0x01000000; status = SUCCESS })
+pub residue_in_the_other_order : (r : Parse CommandStatus CommandStatusParseError) → status_told r.answer r.signature ≡ given (record { tag = 1; residue = 0x01000000; status = SUCCESS })
     → StatusMeets r (read_status (status_bytes (record { tag = 1; residue = 1; status = SUCCESS }) ++ [])) → ⊥
 residue_in_the_other_order r told meets =
     let one : CommandStatus = record { tag = 1; residue = 1; status = SUCCESS } in

@@ -4,7 +4,7 @@ use Rattle.promise.specs.Told.{Told, given, refused}
 use Rattle.protocol_status.specs.declared.report.CommandStatus.{CommandStatus}
 use Rattle.protocol_status.specs.declared.report.CommandStatusParseError.{CommandStatusParseError}
 use Rattle.protocol_status.specs.declared.report.CommandStatusParseError.TheVariants.{InvalidSignature, InvalidLength, InvalidStatus}
-use Rattle.protocol_status.specs.declared.report.StatusParse.{StatusParse}
+use Rattle.protocol_bytes.specs.declared.signature.Parse.{Parse}
 use Rattle.protocol_bytes.specs.Signature.{signature_in}
 use Rattle.std.specs.Prelude.{Result}
 use Rattle.std.specs.declared.result.Result.TheVariants.{Ok, Err}
@@ -25,6 +25,6 @@ status_told (Ok s) signature = given s
 status_told (Err error) signature = status_error_told error signature
 
 -- a reader that answers r where `told` is right
-pub record StatusMeets (r : StatusParse) (told : Told CommandStatus) : Type 0 where
+pub record StatusMeets (r : Parse CommandStatus CommandStatusParseError) (told : Told CommandStatus) : Type 0 where
   pub tells : status_told r.answer r.signature ≡ told
   pub signature : r.signature ≡ signature_in 6 told

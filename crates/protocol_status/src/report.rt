@@ -2,13 +2,12 @@
 ghost use Rattle.std.specs.Prelude.{◌≡◌, ◌≤◌, length};
 ghost use Rattle.protocol_status.specs.StatusBytes.{StatusFits, status_bytes, report_of, read_status, write_status};
 ghost use Rattle.protocol_status.specs.StatusMeets.{StatusMeets, status_error_number};
-ghost use Rattle.protocol_status.specs.Code.{parsed};
 ghost use Rattle.protocol_bytes.specs.Writing.{WriteMeets};
 
 use protocol_bytes::order::{
     u32_from_be_bytes, u32_from_le_bytes, u32_to_be_bytes, u32_to_le_bytes,
 };
-use protocol_bytes::signature::starts_with;
+use protocol_bytes::signature::{Parse, parsed, starts_with};
 use protocol_codes::{Status, UnknownStatus};
 use rule_number::{OutputTooShort, RuleNumber};
 
@@ -42,23 +41,6 @@ impl RuleNumber for CommandStatusParseError {
             CommandStatusParseError::InvalidSignature => 6,
             CommandStatusParseError::InvalidStatus(_) => 7,
         }
-    }
-}
-
-#[derive(Clone, Copy, Debug, PartialEq, Eq)]
-pub struct StatusParse {
-    pub answer: Result<CommandStatus, CommandStatusParseError>,
-    // the four bytes of an invalid signature, zeros otherwise
-    pub signature: [u8; 4],
-}
-
-// An answer that has no signature to tell.
-fn parsed(answer: Result<CommandStatus, CommandStatusParseError>) -> StatusParse
-    ensures { result ≡ parsed answer }
-{
-    StatusParse {
-        answer,
-        signature: [0, 0, 0, 0],
     }
 }
 
@@ -113,14 +95,14 @@ impl CommandStatus {
         Ok(COMMAND_STATUS_BYTES)
     }
 
-    pub fn from_bytes(bytes: &[u8]) -> StatusParse
+    pub fn from_bytes(bytes: &[u8]) -> Parse<CommandStatus, CommandStatusParseError>
         ensures { StatusMeets result (read_status bytes.now) }
     {
         if bytes.len() < COMMAND_STATUS_BYTES {
             return parsed(Err(CommandStatusParseError::InvalidLength(bytes.len())));
         }
         if !starts_with(bytes, SIGNATURE) {
-            return StatusParse {
+            return Parse {
                 answer: Err(CommandStatusParseError::InvalidSignature),
                 signature: [bytes[0], bytes[1], bytes[2], bytes[3]],
             };

@@ -68,6 +68,7 @@ pub enum OperationName {
 }
 
 impl Call {
+    // On a number, a block or a reply, or of those on a thing that stays.
     fn of(letters: &[u8; 3]) -> Option<Call> {
         match letters {
             b"dir" => Some(Call::Direction),
@@ -87,6 +88,12 @@ impl Call {
             b"cap" => Some(Call::Capability),
             b"sto" => Some(Call::Storage),
             b"sec" => Some(Call::Sectors),
+            _ => Call::of_thing(letters),
+        }
+    }
+
+    fn of_thing(letters: &[u8; 3]) -> Option<Call> {
+        match letters {
             b"opn" => Some(Call::Open),
             b"stp" => Some(Call::Step),
             b"giv" => Some(Call::Give),

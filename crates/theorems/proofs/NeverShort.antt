@@ -64,7 +64,7 @@ use Rattle.std.specs.declared.result.Result.TheVariants.{Ok, Err}
 use Rattle.std.specs.declared.ops.ControlFlow.{ControlFlow}
 use Rattle.std.specs.declared.ops.ControlFlow.TheVariants.{Continue, Break}
 use Rattle.std.specs.Prelude.{Result}
-use Rattle.rule_number.specs.declared.OutOfSteps.{OutOfSteps}
+use Rattle.run_operation.specs.declared.RunError.{RunError}
 use Rattle.operation_finish.specs.declared.UsbReply.{UsbReply}
 use Rattle.run_turn.specs.declared.StopError.{StopError}
 
@@ -304,7 +304,7 @@ module _ (k : Kind) (c : CommandBlock) (op : UsbOperation) (on : OnStandIns (fre
   unfolding answer_end stop_told finish_told reply_given end_told
   run_never_short store budget r m s e =
       (checked_run (usb_state op device flash bytes) store budget its_left).0 s
-      (ap end_told (sym m.tells ∙ ap (λ (a : Result (Result UsbReply StopError) OutOfSteps). answer_end a r.beside) e))
+      (ap end_told (sym m.tells ∙ ap (λ (a : Result UsbReply RunError). answer_end a r.beside) e))
 
 -- the same of what a run is by its definition, at its start
 pub fresh_never_short : (k : Kind) (c : CommandBlock) (device : MockState) (flash bytes : List ℕ) (store budget : ℕ)

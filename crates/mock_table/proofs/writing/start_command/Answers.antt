@@ -5,18 +5,18 @@ use Rattle.promise.specs.Told.{Told, given}
 use Rattle.protocol.specs.CommandBytes.{read_command}
 use Rattle.protocol.specs.CommandMeets.{CommandMeets, command_told}
 use Rattle.protocol.specs.declared.CommandBlock.{CommandBlock}
-use Rattle.protocol.specs.declared.CommandParse.{CommandParse}
+use Rattle.protocol_bytes.specs.declared.signature.Parse.{Parse}
+use Rattle.protocol.specs.declared.CommandBlockParseError.{CommandBlockParseError}
 use Rattle.mock_table.specs.Table.{start_turn}
 use Rattle.mock_table.specs.declared.session.CommandState.TheVariants.{IO}
 use Rattle.mock_table.specs.declared.outcome.Effect.TheVariants.{Nothing}
 use Rattle.mock_table.proofs.Meets.{done_as, block_refused_lem}
 use Rattle.mock_table.proofs.writing.start_command.Goals as goal
 use Rattle.std.specs.Prelude.{Result}
-use Rattle.protocol.specs.declared.CommandBlockParseError.{CommandBlockParseError}
 use Rattle.std.specs.declared.result.Result.TheVariants.{Ok}
 
 -- the bytes are a command
-read_as : (r : CommandParse) (t : Told CommandBlock) → CommandMeets r t → (command : CommandBlock) → r.answer ≡ Ok command → t ≡ given command
+read_as : (r : Parse CommandBlock CommandBlockParseError) (t : Told CommandBlock) → CommandMeets r t → (command : CommandBlock) → r.answer ≡ Ok command → t ≡ given command
 unfolding command_told
 read_as r t m command is = sym m.tells ∙ ap (λ (x : Result CommandBlock CommandBlockParseError). command_told x r.signature) is
 

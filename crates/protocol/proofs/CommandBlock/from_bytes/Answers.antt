@@ -9,7 +9,7 @@ use Rattle.protocol_codes.specs.Reading.{direction_read_told, code_read_told}
 use Rattle.protocol_bytes.specs.Signature.{usbc, same}
 use Rattle.protocol_bytes.proofs.Short.{field_elements}
 use Rattle.protocol.specs.declared.CommandBlock.{CommandBlock}
-use Rattle.protocol.specs.Code.{parsed}
+use Rattle.protocol_bytes.specs.Signature.{parsed}
 use Rattle.protocol.proofs.Reading.{meets_short, meets_unsigned, meets_flags, meets_code, meets_block}
 use Rattle.protocol.proofs.CommandBlock.from_bytes.Goals as goal
 use Rattle.std.specs.declared.result.Result.TheVariants.{Ok}

@@ -7,7 +7,7 @@ use mathlib.Core.Path.{◌≡◌, refl, ap, sym, ◌∙◌}
 use lib.ListN.{length, take}
 use Rattle.protocol_bytes.specs.Signature.{usbs, same}
 use Rattle.protocol_status.specs.declared.report.CommandStatus.{CommandStatus}
-use Rattle.protocol_status.specs.Code.{parsed}
+use Rattle.protocol_bytes.specs.Signature.{parsed}
 use Rattle.protocol_bytes.proofs.Short.{field_elements}
 use Rattle.protocol_codes.specs.Reading.{status_read_told}
 use Rattle.protocol_status.proofs.Reading.{meets_short, meets_unsigned, meets_unknown, meets_given}
