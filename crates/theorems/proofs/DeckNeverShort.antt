@@ -36,7 +36,7 @@ use Rattle.theorems.proofs.NeverShort.{refusal_not, fresh_never_short}
 use Rattle.std.specs.Prelude.{Result}
 use Rattle.operation_finish.specs.declared.UsbReply.{UsbReply}
 use Rattle.deck.specs.declared.verdict.RefusalNumber.{RefusalNumber}
-use Rattle.std.specs.declared.result.Result.TheVariants.{Ok, Err}
+use Rattle.std.specs.declared.result.Result.TheVariants.{Ok}
 
 -- what is told of a run, and of an upload's
 numbered_not : (t : Told Reply) → NotShort t → NotShort (numbered t)
