@@ -3,13 +3,13 @@
 #![tactic(auto)]
 
 use deck::bench::Bench;
-use deck_chunk::{ChunkAnswer, Deck};
+use deck_chunk::Deck;
 use deck_io::complaint::complain;
 use deck_io::input::{End, fill, usable_bytes};
 use deck_io::output::write_out;
 use deck_io::within;
-use std::io::{Read, Write};
 use rule_number::RuleNumber;
+use std::io::{Read, Write};
 
 // A deck on its way, chunk by chunk. There is room for the lines of every block of a chunk, so that it is not refused.
 #[derive(Drop)]
@@ -63,7 +63,7 @@ impl<R: Read + Drop, W: Write + Drop, E: Write + Drop> Run<R, W, E> {
             &mut self.store,
         );
         self.deck = step.deck;
-        let ChunkAnswer::Dealt(count) = step.answer else {
+        let Ok(count) = step.answer else {
             complain(
                 &mut self.errors,
                 "bench: a chunk was refused by 20: this program has to be mended",
