@@ -8,7 +8,6 @@ use deck_io::complaint::complain;
 use deck_io::input::{End, fill, usable_bytes};
 use deck_io::output::write_out;
 use deck_io::within;
-use rule_number::RuleNumber;
 use std::io::{Read, Write};
 
 // A deck on its way, chunk by chunk. There is room for the lines of every block of a chunk, so that it is not refused.
@@ -95,7 +94,7 @@ fn main(rt: HostRuntime) {
     let mut flash = [0; 65536];
     let store = [0; 65536];
     let start = Bench::new(&mut flash, &store);
-    if start.answer.result.number() != 0 {
+    if start.answer.result.is_err() {
         complain(
             &mut errors,
             "bench: the stand-in refused its flash by 60 or 61: this program has to be mended",
