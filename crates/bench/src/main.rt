@@ -9,6 +9,7 @@ use deck_io::input::{End, fill, usable_bytes};
 use deck_io::output::write_out;
 use deck_io::within;
 use std::io::{Read, Write};
+use rule_number::RuleNumber;
 
 // A deck on its way, chunk by chunk. There is room for the lines of every block of a chunk, so that it is not refused.
 #[derive(Drop)]

@@ -3,16 +3,16 @@
 #![tactic(auto)]
 
 ghost use Rattle.std.specs.Prelude.{◌≡◌, ◌+◌, ◌*◌, ◌^◌, ◌<◌, ◌≤◌, length, take};
-ghost use Rattle.promise.specs.Told.{number};
 ghost use Rattle.promise.specs.Over.{over};
 ghost use Rattle.deck_line.specs.Line.{longest_line};
 ghost use Rattle.deck_block.specs.Blocks.{begun};
 ghost use Rattle.deck_chunk.specs.Deck.{table, new_deck, deal_next, deal_all};
-ghost use Rattle.deck_chunk.specs.Chunk.{chunk_told, deal_chunk, ChunkMeets};
+ghost use Rattle.deck_chunk.specs.Chunk.{deal_chunk, ChunkMeets};
 ghost use Rattle.deck_chunk.specs.Code.{LinedMeets, NextMeets, DoneMeets};
 
 use deck::bench::Bench;
 use deck_line::{Line, line_of};
+use rule_number::OutputTooShort;
 
 const BLOCK: usize = 512;
 
@@ -26,34 +26,16 @@ pub struct Deck {
 }
 
 // How many blocks were dealt, and how many bytes their lines have.
-#[derive(Clone, Copy)]
+#[derive(Clone, Copy, Debug, PartialEq, Eq)]
 pub struct ChunkCount {
     pub blocks: usize,
     pub bytes: usize,
 }
 
-#[derive(Clone, Copy)]
-pub enum ChunkAnswer {
-    Dealt(ChunkCount),
-    // 20: the buffer for the lines
-    TooShort,
-}
-
-impl ChunkAnswer {
-    // 0 for a chunk that was dealt.
-    pub fn number(self) -> u8
-        ensures { result ≡ number (chunk_told self) }
-    {
-        match self {
-            ChunkAnswer::Dealt(_) => 0,
-            ChunkAnswer::TooShort => 20,
-        }
-    }
-}
-
+// The count, or 20 for the buffer for the lines.
 #[derive(Clone, Copy)]
 pub struct ChunkStep {
-    pub answer: ChunkAnswer,
+    pub answer: Result<ChunkCount, OutputTooShort>,
     pub deck: Deck,
 }
 
@@ -76,11 +58,10 @@ fn deal_line(bench: Bench, block: &[u8], flash: &mut [u8], store: &mut [u8]) -> 
     ensures { LinedMeets result flash.new store.new bench block.now flash.old store.old }
 {
     let step = bench.deal(block, flash, store);
-    let after = step.bench;
-    let verdict = step.verdict;
-    let beside = step.beside;
-    let line = line_of(after.number, verdict, beside);
-    Lined { line, bench: after }
+    Lined {
+        line: line_of(step.bench.number, step.verdict, step.beside),
+        bench: step.bench,
+    }
 }
 
 // Puts a line behind the bytes that are there, and says where the next one goes.
@@ -89,16 +70,14 @@ fn put_line(line: Line, at: usize, lines: &mut [u8]) -> usize
     ensures value { result ≡ at + line.used }
     ensures lines_after { lines.new ≡ over at (take line.used line.bytes) lines.old }
 {
-    let text = line.bytes;
-    let used = line.used;
-    let end = at + used;
-    lines[at..end].copy_from_slice(&text[..used]);
+    let end = at + line.used;
+    lines[at..end].copy_from_slice(&line.bytes[..line.used]);
     end
 }
 
 // Deals a block, if the deck is not over.
 fn deal_next(
-    progress: Progress,
+    mut progress: Progress,
     block: &[u8],
     lines: &mut [u8],
     flash: &mut [u8],
@@ -107,19 +86,15 @@ fn deal_next(
     requires { (progress.bytes + longest_line ≤ length lines.old) × (progress.blocks + 1 < 2 ^ 64) }
     ensures { NextMeets result lines.new flash.new store.new progress lines.old (deal_next block.now (table progress.deck flash.old store.old)) }
 {
-    let deck = progress.deck;
-    if deck.is_over {
+    if progress.deck.is_over {
         return progress;
     }
-    let is_over = block.len() < BLOCK;
-    let lined = deal_line(deck.bench, block, flash, store);
-    let bench = lined.bench;
-    let bytes = put_line(lined.line, progress.bytes, lines);
-    Progress {
-        deck: Deck { bench, is_over },
-        blocks: progress.blocks + 1,
-        bytes,
-    }
+    let lined = deal_line(progress.deck.bench, block, flash, store);
+    progress.deck.bench = lined.bench;
+    progress.deck.is_over = block.len() < BLOCK;
+    progress.bytes = put_line(lined.line, progress.bytes, lines);
+    progress.blocks += 1;
+    progress
 }
 
 // Deals every block of a chunk.
@@ -167,18 +142,17 @@ impl Deck {
     {
         if lines.len() < LONGEST_LINE * blocks.len().div_ceil(BLOCK) {
             return ChunkStep {
-                answer: ChunkAnswer::TooShort,
+                answer: Err(OutputTooShort),
                 deck: self,
             };
         }
         let done = deal_blocks(self, blocks, lines, flash, store);
-        let deck = done.deck;
         ChunkStep {
-            answer: ChunkAnswer::Dealt(ChunkCount {
+            answer: Ok(ChunkCount {
                 blocks: done.blocks,
                 bytes: done.bytes,
             }),
-            deck,
+            deck: done.deck,
         }
     }
 }

@@ -7,7 +7,7 @@ ghost use Rattle.run_turn.specs.Turn.{lent_to};
 ghost use Rattle.deck.specs.Verdict.{verdict_told};
 ghost use Rattle.ffi.specs.Sectors.{SectorsMeet, counts_of, counts_after, device, run_at, read_sectors, write_sectors};
 
-use deck::verdict::Verdict;
+use deck::verdict::RefusalNumber;
 use mock::config::MockDeviceConfig;
 use mock::device::MockState;
 use operation::steps::UsbOperation;
@@ -45,10 +45,10 @@ fn counts_in(reply: UsbReply, before: [u32; 2]) -> [u32; 2]
 }
 
 // A refusal leaves the counts as they are.
-fn counts_after(verdict: Verdict, before: [u32; 2]) -> [u32; 2]
+fn counts_after(verdict: Result<UsbReply, RefusalNumber>, before: [u32; 2]) -> [u32; 2]
     ensures { (b : Beside) → result ≡ counts_after (verdict_told verdict b) before }
 {
-    let Verdict::Done(reply) = verdict else {
+    let Ok(reply) = verdict else {
         return before;
     };
     counts_in(reply, before)

@@ -32,7 +32,7 @@ bytes_in (refused n values) = 0
 written_of : (a : Result ChunkCount OutputTooShort) (count : ChunkCount) (buffer : List ℕ) → chunk_told a ≡ given count → written a buffer ≡ take count.bytes buffer
 unfolding chunk_told written bytes_in
 written_of (Ok other) count buffer e = let n : other.bytes ≡ count.bytes = ap bytes_in e in ap (λ (k : ℕ). take k buffer) n
-written_of (Err e) count buffer e = let z : ◌≡◌ {A = ℕ} 0 1 = cc in absurd (omega arith)
+written_of (Err short) count buffer e = let z : ◌≡◌ {A = ℕ} 0 1 = cc in absurd (omega arith)
 
 module _ (t : Table) (chunk buffer : List ℕ) (r : ChunkStep) (after flash store : List ℕ)
     (room : longest_line * begun (length chunk) ≤ length buffer) (m : ChunkMeets r after flash store (deal_chunk chunk t buffer)) where

@@ -22,9 +22,7 @@ use Rattle.theorems.proofs.OneCall.{taken_is}
 use Rattle.std.specs.Prelude.{Result}
 use Rattle.maskrom.specs.declared.PartStep.{PartStep}
 use Rattle.maskrom.specs.declared.PartError.{PartError}
-use Rattle.std.specs.declared.result.Result.TheVariants.{Ok, Err}
-use Rattle.maskrom.specs.declared.PartError.TheVariants as part_error
-use Rattle.maskrom.specs.declared.UploadError.TheVariants as upload_error
+use Rattle.std.specs.declared.result.Result.TheVariants.{Ok}
 
 -- a driving that ended was neither refused nor left unended
 stopped_not : {C : Type 0} (n : ℕ) (us : List Transfer) → stopped n ≡ ended us → C

@@ -51,7 +51,6 @@ use Rattle.mock_effects.specs.Steps.{read_step_of, read_step_by}
 use Rattle.mock.specs.declared.device.MockState.{MockState}
 use Rattle.mock.specs.declared.device.MockStep.{MockStep}
 use Rattle.mock.specs.Device.{session_of, read_bulk, MockMeets}
-use Rattle.run_turn.specs.declared.StopError.TheVariants as stop
 use Rattle.run_turn.specs.declared.UsbTurned.{UsbTurned}
 use Rattle.run_turn.specs.Turn.{UsbState, usb_state, onward, buffer_for, gives, received, got, transfers, after, usb_turn}
 use Rattle.run_turn.specs.Answers.{stop_told, turn_told, TurnMeets}
@@ -60,7 +59,7 @@ use Rattle.run_operation.specs.Run.{run_rules, unstarted, usb_run}
 use Rattle.run_operation.specs.Answers.{answer_end, RunMeets}
 use Rattle.theorems.specs.OnStandIns.{NothingLeft, OnStandIns, begun, by_turn, by_run}
 use Rattle.theorems.proofs.CallsThatEnd.{StatusRead, row_read}
-use Rattle.std.specs.declared.result.Result.TheVariants.{Ok, Err}
+use Rattle.std.specs.declared.result.Result.TheVariants.{Ok}
 use Rattle.std.specs.declared.ops.ControlFlow.{ControlFlow}
 use Rattle.std.specs.declared.ops.ControlFlow.TheVariants.{Continue, Break}
 use Rattle.std.specs.Prelude.{Result}

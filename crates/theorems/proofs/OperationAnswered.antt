@@ -145,9 +145,10 @@ beside_finished (refused n values) = refl
 finished_answered : (t : Told Reply) → FinishAnswered t → (x : Result UsbStep StepError) × (step_told x (beside_at (finished_told t)) ≡ finished_told t)
 unfolding step_told
 finished_answered t a =
-    let same : beside_at (finished_told t) ≡ a.0.beside = beside_finished t ∙ sym a.1.beside in
-    (finished_by a.0.answer,
-     ap (λ (b : Beside). step_told (finished_by a.0.answer) b) same ∙ passed_on a.0.answer a.0.beside ∙ ap finished_told a.1.tells)
+    let same : beside_at (finished_told t) ≡ a.0.beside = beside_finished t ∙ sym a.1.beside in (
+      finished_by a.0.answer,
+      ap (λ (b : Beside). step_told (finished_by a.0.answer) b) same ∙ passed_on a.0.answer a.0.beside ∙ ap finished_told a.1.tells,
+    )
 
 module _ (op : UsbOperation) (lent room : ℕ) where
   data_answered : (at : IOBytes) → StepAnswered (io_step at op lent)

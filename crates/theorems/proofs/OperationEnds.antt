@@ -60,7 +60,7 @@ use Rattle.theorems.specs.Runs.{operation_run}
 use Rattle.theorems.proofs.FromData.{inband_refused, inband_answered, read_refused, read_answered, write_refused, write_answered}
 use Rattle.protocol.specs.CommandBytes.{BlockFits}
 use Rattle.std.specs.Prelude.{Option}
-use Rattle.std.specs.declared.option.Option.TheVariants.{Some, None}
+use Rattle.std.specs.declared.option.Option.TheVariants.{Some}
 
 pub default_sized : Sized default_config
 unfolding default_config

@@ -42,9 +42,8 @@ use Rattle.theorems.proofs.CheckedRuns.{spent_met, checked_resumed, checked_whol
 use Rattle.std.specs.Prelude.{Result}
 use Rattle.run_operation.specs.declared.RunError.{RunError}
 use Rattle.run_operation.specs.declared.RunError.TheVariants.{OutOfSteps}
-use Rattle.std.specs.declared.result.Result.TheVariants.{Ok, Err}
+use Rattle.std.specs.declared.result.Result.TheVariants.{Err}
 use Rattle.operation_finish.specs.declared.UsbReply.{UsbReply}
-use Rattle.run_turn.specs.declared.StopError.{StopError}
 
 -- what the checks look at is as it was, and there is no less data
 record Kept (s t : UsbState) : Type 0 where

@@ -2,7 +2,6 @@
 -- bytes.
 use Prim.Native.Nat.{ℕ, ◌+◌, ◌*◌, ◌<◌, ◌≤◌}
 use mathlib.Core.Path.{◌≡◌, refl, ap, ap₂, sym, ◌∙◌}
-use mathlib.Core.Bool.{true}
 use mathlib.Core.List.{List, ◌++◌, append_assoc}
 use native.Mathlib.Nat.{add_assoc}
 use native.Mathlib.Omega.{arith}
@@ -21,7 +20,7 @@ use Rattle.mock_areas.specs.Append.{Appending, held_by, append_rules, refused_ap
 use Rattle.mock_areas.proofs.Search.{first_set}
 use Rattle.mock_areas.proofs.Room.{slot_inside}
 use Rattle.mock_areas.proofs.Cases.{appended}
-use Rattle.std.specs.declared.option.Option.TheVariants.{Some, None}
+use Rattle.std.specs.declared.option.Option.TheVariants.{Some}
 use Rattle.std.specs.Prelude.{Option}
 
 -- bytes put behind bytes that were just put

@@ -29,7 +29,7 @@ use Rattle.theorems.proofs.UploadTransfers.{Loads, spent, finished, stopped, sen
 use Rattle.theorems.specs.Runs.{written, upload_run}
 use Rattle.theorems.proofs.UploadSteps.{whole_many}
 use Rattle.theorems.specs.Told.{UploadTold, accepted, no_slot, slot_full}
-use Rattle.std.specs.declared.result.Result.TheVariants.{Ok, Err}
+use Rattle.std.specs.declared.result.Result.TheVariants.{Ok}
 
 module _ (areas : Areas) (number : ℕ) (bytes store : List ℕ) where
   append_told : UploadTold (append_step areas number bytes store).told

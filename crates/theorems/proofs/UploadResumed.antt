@@ -33,7 +33,7 @@ use Rattle.theorems.proofs.CheckedRuns.{spent_met, checked_resumed, checked_whol
 use Rattle.std.specs.Prelude.{Result}
 use Rattle.run_upload.specs.declared.LoadError.{LoadError}
 use Rattle.run_upload.specs.declared.LoadError.TheVariants.{OutOfSteps}
-use Rattle.std.specs.declared.result.Result.TheVariants.{Ok, Err}
+use Rattle.std.specs.declared.result.Result.TheVariants.{Err}
 
 -- what the look at is as it was
 record LoadKept (s t : LoadState) : Type 0 where

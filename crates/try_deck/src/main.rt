@@ -7,6 +7,7 @@ use deck_chunk::{ChunkAnswer, Deck};
 use deck_io::input::read_full;
 use deck_io::within;
 use std::io::{Result, Write};
+use rule_number::RuleNumber;
 
 // More turns than any of the decks has chunks: the chunks behind its end are empty.
 const TURNS: usize = 20;
