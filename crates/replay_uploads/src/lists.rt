@@ -57,20 +57,10 @@ impl List<'_> {
     }
 }
 
-// A whole upload on its way.
-#[derive(Clone, Copy)]
-struct Whole<'a> {
-    record: WholeUpload,
-    image: &'a [u8],
-}
-
-impl Whole<'_> {
-    fn step(&mut self, list: &mut List) -> Result<bool, u8> {
-        let mut out = [0u8; 4096];
-        let done = self.record.step(self.image, &mut out);
-        self.record = done.next;
-        list.add(done.step, &out)
-    }
+// What takes steps to a finish.
+trait Steps {
+    // Whether there was a transfer, which is added to the list, or the finish. A refusal is its number.
+    fn step(&mut self, list: &mut List) -> Result<bool, u8>;
 
     // The step after the finish must be the finish again: a transfer there is one too many.
     fn to_the_end(&mut self, list: &mut List) -> Result<(), u8> {
@@ -81,6 +71,22 @@ impl Whole<'_> {
         }
         self.step(list)?;
         Ok(())
+    }
+}
+
+// A whole upload on its way.
+#[derive(Clone, Copy)]
+struct Whole<'a> {
+    record: WholeUpload,
+    image: &'a [u8],
+}
+
+impl Steps for Whole<'_> {
+    fn step(&mut self, list: &mut List) -> Result<bool, u8> {
+        let mut out = [0u8; 4096];
+        let done = self.record.step(self.image, &mut out);
+        self.record = done.next;
+        list.add(done.step, &out)
     }
 }
 
@@ -122,23 +128,15 @@ impl Cut<'_> {
         }
         Ok(())
     }
+}
 
-    fn close(&mut self, list: &mut List) -> Result<bool, u8> {
+// Closed, step by step.
+impl Steps for Cut<'_> {
+    fn step(&mut self, list: &mut List) -> Result<bool, u8> {
         let mut out = [0u8; 4096];
         let done = self.record.close(&mut out);
         self.record = done.next;
         list.add(done.step, &out)
-    }
-
-    // The close after the finish must be the finish again.
-    fn to_the_end(&mut self, list: &mut List) -> Result<(), u8> {
-        for _ in 0..TURNS {
-            if !self.close(list)? {
-                break;
-            }
-        }
-        self.close(list)?;
-        Ok(())
     }
 }
 
