@@ -9,7 +9,8 @@ use replay_lines::buffer::first;
 use replay_lines::input::Input;
 use replay_lines::names::Call;
 use replay_lines::tokens::Tokens;
-use replay_steps::operations::{Current, Operations};
+use replay_steps::held::Held;
+use replay_steps::operations::Operations;
 use replay_steps::uploads::Uploads;
 use replay_world::world::World;
 use std::io::{Result, Write};
@@ -41,7 +42,7 @@ fn has_device(call: Call) -> bool {
 // The sections of the things that stay.
 fn print_world<W: Write>(out: &mut W, call: Call, world: &World) -> Result<()> {
     if has_own(call)
-        && let Some(Current { record: _, length }) = world.operations.current
+        && let Some(Held { record: _, length }) = world.operations.current
     {
         section(out, first(length, world.operations.own))?;
     }

@@ -1,4 +1,5 @@
 // "Operations": the current operation, stepped by hand.
+use crate::held::Held;
 use operation::starts::{
     UsbStart, capability, chip_info, erase_force, erase_lba, flash_id, flash_info, read_lba,
     reset_device, storage, switch_storage, write_lba,
@@ -16,17 +17,10 @@ use replay_lines::data::LEN;
 use replay_lines::names::OperationName;
 use replay_lines::tokens::Tokens;
 
-// An operation's record, and the length of the caller's data.
-#[derive(Clone, Copy)]
-pub struct Current {
-    pub record: UsbOperation,
-    pub length: usize,
-}
-
 // The current operation, where there is one, and the buffer that the caller's data stands in.
 #[derive(Drop)]
 pub struct Operations<'a> {
-    pub current: Option<Current>,
+    pub current: Option<Held<UsbOperation>>,
     pub own: &'a mut [u8],
 }
 
@@ -108,7 +102,7 @@ impl Operations<'_> {
         };
         if let SectorAnswer::Count(_) = answer {
             copy(first(length, data), self.own);
-            self.current = Some(Current {
+            self.current = Some(Held {
                 record: operation,
                 length,
             });
@@ -126,17 +120,17 @@ impl Operations<'_> {
         }
         let record = plain(name, tag, &mut tokens)?;
         tokens.end()?;
-        self.current = Some(Current { record, length: 0 });
+        self.current = Some(Held { record, length: 0 });
         Some(Answer::from(Told::of(0, &[])))
     }
 
     // `stp`
     pub fn step(&mut self, mut tokens: Tokens, room: &mut [u8]) -> Option<Answer> {
-        let Current { record, length } = self.current?;
+        let Held { record, length } = self.current?;
         let len = tokens.room(room)?;
         tokens.end()?;
         let done = record.step(first(length, self.own), first_mut(len, room));
-        self.current = Some(Current {
+        self.current = Some(Held {
             record: done.next,
             length,
         });
@@ -145,11 +139,11 @@ impl Operations<'_> {
 
     // `giv`
     pub fn give(&mut self, mut tokens: Tokens, data: &mut [u8]) -> Option<Answer> {
-        let Current { record, length } = self.current?;
+        let Held { record, length } = self.current?;
         let len = tokens.data(LEN, data)?;
         tokens.end()?;
         let done = record.give(first(len, data), first_mut(length, self.own));
-        self.current = Some(Current {
+        self.current = Some(Held {
             record: done.next,
             length,
         });

@@ -1,4 +1,5 @@
 // "Uploads": the current upload, stepped by hand.
+use crate::held::Held;
 use maskrom::{Control, UploadStart, UploadStep, WholeStart, WholeUpload, write_area};
 use replay_answers::answer::Answer;
 use replay_answers::told::Told;
@@ -6,17 +7,10 @@ use replay_lines::buffer::{copy, first, first_mut};
 use replay_lines::data::IMAGE;
 use replay_lines::tokens::Tokens;
 
-// An upload's record, and the length of its image.
-#[derive(Clone, Copy)]
-pub struct Upload {
-    pub record: WholeUpload,
-    pub length: usize,
-}
-
 // The current upload, where there is one, and the buffer that its image stands in.
 #[derive(Drop)]
 pub struct Uploads<'a> {
-    pub current: Option<Upload>,
+    pub current: Option<Held<WholeUpload>>,
     pub image: &'a mut [u8],
 }
 
@@ -60,7 +54,7 @@ impl Uploads<'_> {
         copy(image, self.image);
         let WholeStart { start, upload } = write_area(area, image);
         if let UploadStart::Started = start {
-            self.current = Some(Upload {
+            self.current = Some(Held {
                 record: upload,
                 length,
             });
@@ -70,11 +64,11 @@ impl Uploads<'_> {
 
     // `ust`
     pub fn step(&mut self, mut tokens: Tokens, room: &mut [u8]) -> Option<Answer> {
-        let Upload { record, length } = self.current?;
+        let Held { record, length } = self.current?;
         let len = tokens.room(room)?;
         tokens.end()?;
         let done = record.step(first(length, self.image), first_mut(len, room));
-        self.current = Some(Upload {
+        self.current = Some(Held {
             record: done.next,
             length,
         });

@@ -5,8 +5,9 @@ use replay_answers::told::Told;
 use replay_device::devices::{Device, Devices, refusal};
 use replay_lines::buffer::first_mut;
 use replay_lines::tokens::Tokens;
-use replay_steps::operations::{Current, Operations, finished};
-use replay_steps::uploads::{Upload, Uploads};
+use replay_steps::held::Held;
+use replay_steps::operations::{Operations, finished};
+use replay_steps::uploads::Uploads;
 use run_operation::RunAnswer;
 use run_turn::Stop;
 use run_upload::{LoadAnswer, LoadStop, run_upload};
@@ -46,7 +47,7 @@ pub fn run(
     devices: &mut Devices,
     mut tokens: Tokens,
 ) -> Option<Answer> {
-    let Current { record, length } = operations.current?;
+    let Held { record, length } = operations.current?;
     let Device { state, flash } = devices.current?;
     let budget = tokens.u32()?;
     tokens.end()?;
@@ -58,7 +59,7 @@ pub fn run(
         first_mut(length, operations.own),
         budget,
     );
-    operations.current = Some(Current {
+    operations.current = Some(Held {
         record: done.operation,
         length,
     });
@@ -71,7 +72,7 @@ pub fn run(
 
 // `urn`
 pub fn load(uploads: &mut Uploads, devices: &mut Devices, mut tokens: Tokens) -> Option<Answer> {
-    let Upload { record, length } = uploads.current?;
+    let Held { record, length } = uploads.current?;
     let Device { state, flash } = devices.current?;
     let budget = tokens.u32()?;
     tokens.end()?;
@@ -83,7 +84,7 @@ pub fn load(uploads: &mut Uploads, devices: &mut Devices, mut tokens: Tokens) ->
         first_mut(length, uploads.image),
         budget,
     );
-    uploads.current = Some(Upload {
+    uploads.current = Some(Held {
         record: done.upload,
         length,
     });
