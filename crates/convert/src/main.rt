@@ -3,146 +3,114 @@
 #![tactic(auto)]
 
 use deck_convert::Convert;
-use deck_io::complaint::{complain, complain_of};
-use deck_io::input::{Input, fill, usable_bytes};
+use deck_io::complaint::complain;
+use deck_io::input::{End, fill, usable_bytes};
 use deck_io::output::write_out;
 use deck_io::within;
 use std::io::{Read, Write};
 
 const BLOCK: usize = 512;
 
-// The deck after a chunk, how many whole blocks of it were read, and whether there may be more of it.
-#[derive(Clone, Copy)]
-struct Turn {
+// A deck on its way, chunk by chunk, and how many whole blocks of it were read.
+#[derive(Drop)]
+struct Run<R: Drop, W: Drop, E: Drop> {
+    from: R,
+    to: W,
+    errors: E,
+    chunk: [u8; 8192],
     convert: Convert,
     blocks: u64,
-    goes_on: bool,
 }
 
 // That the whole deck was copied, whether a block of kind 13 is still in it, and whether it ends inside a block.
 fn say_done<E: Write>(errors: &mut E, convert: Convert, rest: usize) {
-    complain_of(
+    complain(
         errors,
-        b"convert: blocks converted: ",
-        convert.converted,
-        b"\n",
+        format_args!("convert: blocks converted: {}", convert.converted),
     );
     if convert.left != 0 {
-        complain_of(
-            errors,
-            b"convert: blocks of kind 13 that were copied as they are, because their check is wrong: ",
-            convert.left,
-            b"; an old deck goes through recheck first, and what that writes through convert; ",
-        );
         complain(
             errors,
-            b"else copy the deck again and convert it from its first block, or make it again from its lines\n",
+            format_args!(
+                "convert: blocks of kind 13 that were copied as they are, because their check is wrong: {}; an old deck goes through recheck first, and what that writes through convert; else copy the deck again and convert it from its first block, or make it again from its lines",
+                convert.left
+            ),
         );
     }
     if rest != 0 {
-        complain_of(
-            errors,
-            b"convert: the deck ends inside a block, of which so many bytes were copied as they are: ",
-            rest as u64,
-            b"; it was cut short: copy it again and convert it from its first block ",
-        );
         complain(
             errors,
-            b"(a file of lines is no deck: tools/make-deck makes one of it)\n",
+            format_args!(
+                "convert: the deck ends inside a block, of which so many bytes were copied as they are: {rest}; it was cut short: copy it again and convert it from its first block (a file of lines is no deck: tools/make-deck makes one of it)"
+            ),
         );
     }
 }
 
 fn say_unread<E: Write>(errors: &mut E, blocks: u64) {
-    complain_of(
+    complain(
         errors,
-        b"convert: whole blocks that were written before that: ",
-        blocks,
-        b"; what was read behind them was not written; convert the deck again from its first block\n",
+        format_args!(
+            "convert: whole blocks that were written before that: {blocks}; what was read behind them was not written; convert the deck again from its first block"
+        ),
     );
 }
 
-// Whether the chunk's first bytes were written; where they were not, what to do is said behind the reason.
-fn write_first<W: Write, E: Write>(to: &mut W, errors: &mut E, chunk: &[u8], bytes: usize) -> bool {
-    let used = within(bytes, chunk);
-    let output = write_out(
-        to,
-        errors,
-        &chunk[..used],
-        b"convert: a block could not be written",
-    );
-    if output.is_shut {
-        complain(
-            errors,
-            b"convert: not every block could be written; run it again with an output that takes them\n",
+impl<R: Read + Drop, W: Write + Drop, E: Write + Drop> Run<R, W, E> {
+    // Whether the chunk's first bytes were written; where they were not, what to do is said behind the reason.
+    fn write_first(&mut self, used: usize) -> bool {
+        let used = within(used, &self.chunk);
+        let output = write_out(
+            &mut self.to,
+            &mut self.errors,
+            &self.chunk[..used],
+            "convert: a block could not be written",
         );
+        if output.is_err() {
+            complain(
+                &mut self.errors,
+                "convert: not every block could be written; run it again with an output that takes them",
+            );
+        }
+        output.is_ok()
     }
-    !output.is_shut
-}
 
-// Whether there may be more of the deck. Where there is none, standard error says how it ended.
-fn goes_on<E: Write>(
-    errors: &mut E,
-    convert: Convert,
-    blocks: u64,
-    rest: usize,
-    input: Input,
-) -> bool {
-    if !input.is_over {
-        return true;
+    // Whether there may be more of the deck. Where there is none, standard error says how it ended.
+    fn goes_on(&mut self, end: Option<End>, rest: usize) -> bool {
+        match end {
+            None => {}
+            Some(End::Failed) => say_unread(&mut self.errors, self.blocks),
+            Some(End::Over) => say_done(&mut self.errors, self.convert, rest),
+        }
+        end.is_none()
     }
-    if input.has_failed {
-        say_unread(errors, blocks);
-    } else {
-        say_done(errors, convert, rest);
-    }
-    false
-}
 
-fn convert_first(convert: Convert, chunk: &mut [u8], bytes: usize) -> Convert {
-    let used = within(bytes, chunk);
-    convert.convert_chunk(&mut chunk[..used])
-}
-
-fn convert_once<R: Read, W: Write, E: Write>(
-    turn: Turn,
-    from: &mut R,
-    to: &mut W,
-    errors: &mut E,
-    chunk: &mut [u8; 8192],
-) -> Turn {
-    let input = fill(
-        from,
-        errors,
-        chunk,
-        b"convert: the deck could not be read on",
-    );
-    let used = usable_bytes(input);
-    let convert = convert_first(turn.convert, chunk, used);
-    let blocks = turn.blocks.wrapping_add((used / BLOCK) as u64);
-    let rest = used % BLOCK;
-    let is_written = write_first(to, errors, chunk, used);
-    Turn {
-        convert,
-        blocks,
-        goes_on: is_written && goes_on(errors, convert, blocks, rest, input),
+    fn convert_once(&mut self) -> bool {
+        let input = fill(
+            &mut self.from,
+            &mut self.errors,
+            &mut self.chunk,
+            "convert: the deck could not be read on",
+        );
+        let used = within(usable_bytes(input), &self.chunk);
+        self.convert = self.convert.convert_chunk(&mut self.chunk[..used]);
+        self.blocks = self.blocks.wrapping_add((used / BLOCK) as u64);
+        self.write_first(used) && self.goes_on(input.end, used % BLOCK)
     }
 }
 
 // Chunk after chunk; a proved loop has to end, and no deck has as many.
 fn main(rt: HostRuntime) {
-    let mut input = rt.stdin();
-    let mut output = rt.stdout();
-    let mut errors = rt.stderr();
-    let mut chunk = [0u8; 8192];
-    let mut turn = Turn {
+    let mut run = Run {
+        from: rt.stdin(),
+        to: rt.stdout(),
+        errors: rt.stderr(),
+        chunk: [0; 8192],
         convert: Convert::new(),
         blocks: 0,
-        goes_on: true,
     };
     for _ in 0..u64::MAX {
-        turn = convert_once(turn, &mut input, &mut output, &mut errors, &mut chunk);
-        if !turn.goes_on {
+        if !run.convert_once() {
             return;
         }
     }

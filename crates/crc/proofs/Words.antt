@@ -1,17 +1,25 @@
 -- Eight bytes as one number, without a table: x^64 is x^48 + x^20 + 1, the fourth power of x^16 = x^12 + x^5 + 1, so what stands before 64 bits goes
 -- into them by shifts.
-use Prim.Native.Nat.{ℕ, zero, suc, ◌+◌, ◌*◌, ◌/◌, ◌%◌, ◌^◌, ◌<◌}
+use Prim.Native.Nat.{ℕ, zero, suc, ◌+◌, ◌*◌, ◌/◌, ◌%◌, ◌^◌, ◌≤◌, ◌<◌}
 use mathlib.Core.Path.{◌≡◌, refl, ap, ap₂, sym, subst, ◌∙◌}
 use mathlib.Core.List.{List, [], ◌∷◌}
 use native.Mathlib.Omega.{arith}
 use native.Mathlib.Nat.{zero-mul, one-mul, zero-add, add-suc, suc-add, mod-lt, mul_assoc, pow-succ'}
-use lib.ListN.{length, get_or}
+use lib.ListN.{length, get_or, take, drop, length-take, length-drop, get_or-eq_default}
+use lib.Dec.{ltb}
+use Rattle.std.proofs.Common.{ltb-true, ltb-false}
+use Rattle.promise.proofs.Outcome.{on_test}
+use lib.Seq.{drop-drop, get_or-take, get_or-drop}
+use Rattle.std.specs.Simd.{first_chunks}
 use lib.Pow.{pow_pos, split, high, shl-shr, shr-shr, shr_lt}
+use Rattle.std.specs.Int.{w64, byte_at, bytes_high_first, to_be_bytes, from_be_bytes}
+use Rattle.std.proofs.lemmas.Nat.{from_be_bytes-to_be_bytes_8}
 use lib.Bits.{bit_xor, xor_shr, xor_mod, xor_shifted, xor_zero_l, xor_zero_r, xor_self}
 use Rattle.promise.specs.Bytes.{AreBytes}
 use Rattle.crc.specs.Check.{polynomial, bit_step, bits_step, byte_step, crc_over}
 use Rattle.crc.specs.Table.{rows}
 use Rattle.crc.proofs.Xor.{xor_shl, xor_middle}
+use Rattle.crc.proofs.Laws.{over_split}
 use Rattle.crc.proofs.Linear.{bits_linear}
 use Rattle.crc.proofs.Bytewise.{rows_same, listed}
 
@@ -177,35 +185,52 @@ eight_bytes c bs h e =
     ap (λ (m : ℕ). bits_step c m (joined 0 bs)) bits ∙ bytes_behind bs h 0 c 0
 
 -- eight bytes as one number
-pub word_is : (p : List ℕ) → length p ≡ 8
-    → joined 0 p ≡ ((((((get_or p 0 0 * 256 + get_or p 1 0) * 256 + get_or p 2 0) * 256 + get_or p 3 0) * 256 + get_or p 4 0) * 256 + get_or p 5 0) * 256 + get_or p 6 0) * 256 + get_or p 7 0
+pub word_is : (p : List ℕ) → length p ≡ 8 → joined 0 p ≡ from_be_bytes w64 p
 unfolding joined rows
 word_is p e =
     let eight : p ≡ rows (λ (i : ℕ). get_or p i 0) 0 8 = sym (ap (rows (λ (i : ℕ). get_or p i 0) 0) (sym e) ∙ listed p) in
-    ap (joined 0) eight ∙ ap (λ (x : ℕ). ((((((x * 256 + get_or p 1 0) * 256 + get_or p 2 0) * 256 + get_or p 3 0) * 256 + get_or p 4 0) * 256 + get_or p 5 0) * 256 + get_or p 6 0) * 256 + get_or p 7 0) (zero-add (get_or p 0 0))
+    ap (joined 0) eight ∙ (omega arith)
 
--- k bytes off the end of a number, the last first, and what is left before them
-unfoldable pub bytes_of : ℕ → ℕ → List ℕ → List ℕ
-bytes_of zero s bs = s ∷ bs
-bytes_of (suc k) s bs = bytes_of k (s / 2 ^ 8) (s % 2 ^ 8 ∷ bs)
+-- and its 64 bits
+pub word_steps : (c : ℕ) (p : List ℕ) → AreBytes p → length p ≡ 8 → bits_step c 64 (from_be_bytes w64 p) ≡ crc_over c p
+word_steps c p h e = ap (bits_step c 64) (sym (word_is p e)) ∙ eight_bytes c p h e
 
-joined_again : (k s : ℕ) (bs : List ℕ) → joined 0 (bytes_of k s bs) ≡ joined s bs
-unfolding bytes_of joined
-joined_again zero s bs = ap (λ (x : ℕ). joined x bs) (zero-add s)
-joined_again (suc k) s bs = joined_again k (s / 2 ^ 8) (s % 2 ^ 8 ∷ bs) ∙ ap (λ (x : ℕ). joined x bs) (split s 8)
+byte_small : (i n : ℕ) → byte_at i n < 256
+byte_small zero n = omega arith
+byte_small (suc i) n = mod-lt (n / 256 ^ suc i) (omega arith)
 
-one_more : (b : ℕ) (bs : List ℕ) → b < 256 → AreBytes bs → AreBytes (b ∷ bs)
-one_more b bs h hs zero = h
-one_more b bs h hs (suc i) = hs i
-
-are_bytes : (k s : ℕ) (bs : List ℕ) → s < 2 ^ (8 + k * 8) → AreBytes bs → AreBytes (bytes_of k s bs)
-unfolding bytes_of
-are_bytes zero s bs h hs = one_more s bs h hs
-are_bytes (suc k) s bs h hs =
-    let wide : 8 + suc k * 8 ≡ 8 + k * 8 + 8 = omega arith in
-    are_bytes k (s / 2 ^ 8) (s % 2 ^ 8 ∷ bs) (shr_lt (8 + k * 8) 8 (subst (λ (m : ℕ). s < 2 ^ m) wide h)) (one_more (s % 2 ^ 8) bs (omega arith) hs)
+bytes_small : (k n : ℕ) → AreBytes (bytes_high_first k n)
+bytes_small zero n i = omega arith
+bytes_small (suc k) n zero = byte_small k n
+bytes_small (suc k) n (suc i) = bytes_small k n i
 
 -- 64 bits as eight bytes
-pub as_bytes : (s : ℕ) → s < 2 ^ 64 → crc_over 0 (bytes_of 7 s []) ≡ over64 s
-unfolding bytes_of joined
-as_bytes s h = sym (eight_bytes 0 (bytes_of 7 s []) (are_bytes 7 s [] h (λ i. omega arith)) refl) ∙ ap over64 (joined_again 7 s [])
+pub as_bytes : (s : ℕ) → s < 2 ^ 64 → crc_over 0 (to_be_bytes w64 s) ≡ over64 s
+as_bytes s h = sym (word_steps 0 (to_be_bytes w64 s) (bytes_small 8 s) refl) ∙ ap over64 (from_be_bytes-to_be_bytes_8 s h)
+
+-- a chunk of eight stands where its number says
+pub chunk_at : (k n : ℕ) (bs d : List ℕ) → k < n → get_or (first_chunks 8 n bs) k d ≡ take 8 (drop (k * 8) bs)
+chunk_at k zero bs d h = absurd (omega arith)
+chunk_at zero (suc n) bs d h = refl
+chunk_at (suc k) (suc n) bs d h =
+    let place : 8 + k * 8 ≡ suc k * 8 = omega arith in
+    chunk_at k n (drop 8 bs) d (omega arith) ∙ ap (take 8) (drop-drop (k * 8) 8 bs ∙ ap (λ (i : ℕ). drop i bs) place)
+
+part_small : (n i : ℕ) (bs : List ℕ) → AreBytes bs → AreBytes (take n (drop i bs))
+part_small zero i bs h j = omega arith
+part_small (suc n) i bs h j =
+    on_test (ltb j (suc n))
+    (λ inside. rw (get_or-take (suc n) (drop i bs) j 0 (ltb-true j (suc n) inside), get_or-drop i bs j 0) (h (i + j)))
+    (λ past. rw (get_or-eq_default (take (suc n) (drop i bs)) 0 {n = j} (let l = ltb-false j (suc n) past in simp length-take (omega arith))) (omega arith))
+
+-- a turn takes the next eight bytes, as one number
+pub next_eight : (c v k n : ℕ) (words : List (List ℕ)) (bs : List ℕ) → AreBytes bs → n * 8 ≤ length bs → words ≡ first_chunks 8 n bs → k < n
+    → v ≡ from_be_bytes w64 (get_or words k []) → crc_over (bits_step c 64 v) (drop ((k + 1) * 8) bs) ≡ crc_over c (drop (k * 8) bs)
+next_eight c v k n words bs h room front more e =
+    let part = take 8 (drop (k * 8) bs) in
+    let here : get_or words k [] ≡ part = ap (λ (l : List (List ℕ)). get_or l k []) front ∙ chunk_at k n bs [] more in
+    let eight : length part ≡ 8 = simp (length-take, length-drop) (omega arith) in
+    let place : (k + 1) * 8 ≡ k * 8 + 8 = omega arith in
+    ap₂ (λ (x i : ℕ). crc_over (bits_step c 64 x) (drop i bs)) (e ∙ ap (λ (w : List ℕ). from_be_bytes w64 w) here) place
+    ∙ ap₂ (λ (r : ℕ) (l : List ℕ). crc_over r l) (word_steps c part (part_small 8 (k * 8) bs h) eight) (sym (drop-drop 8 (k * 8) bs))
+    ∙ over_split c 8 (drop (k * 8) bs)

@@ -58,12 +58,9 @@ fn over_bytes(t: &[u16; 256], crc: u16, bytes: &[u8]) -> u16
     requires { t.now ≡ crc_table }
     ensures { result ≡ crc_over crc bytes.now }
 {
-    let n = bytes.len();
     let mut c = crc;
-    let mut i = 0;
-    while i < n {
-        c = byte_step(t, c, bytes[i]);
-        i += 1;
+    for &byte in bytes {
+        c = byte_step(t, c, byte);
     }
     c
 }
@@ -74,20 +71,6 @@ pub fn update_by_table(crc: u16, bytes: &[u8]) -> u16
 {
     let t = table();
     over_bytes(&t, crc, bytes)
-}
-
-// The 64 bits of eight bytes.
-fn word_of(part: &[u8]) -> u64
-    requires { length part.now ≡ 8 }
-    ensures { (c : ℕ) → bits_step c 64 result ≡ crc_over c part.now }
-{
-    let two = (part[0] as u64) * 256 + (part[1] as u64);
-    let three = two * 256 + (part[2] as u64);
-    let four = three * 256 + (part[3] as u64);
-    let five = four * 256 + (part[4] as u64);
-    let six = five * 256 + (part[5] as u64);
-    let seven = six * 256 + (part[6] as u64);
-    seven * 256 + (part[7] as u64)
 }
 
 // 64 bits for which the register is the same as for those of `before` and then those of `word`: before times x^64, which is x^48 + x^20 + 1.
@@ -106,42 +89,22 @@ fn fold(before: u64, word: u64) -> u64
 fn settle(bits: u64, rest: &[u8]) -> u16
     ensures { result ≡ crc_over (bits_step 0 64 bits) rest.now }
 {
-    let seven = bits / 256;
-    let six = seven / 256;
-    let five = six / 256;
-    let four = five / 256;
-    let three = four / 256;
-    let two = three / 256;
-    let one = two / 256;
-    let bytes = [
-        one as u8,
-        (two % 256) as u8,
-        (three % 256) as u8,
-        (four % 256) as u8,
-        (five % 256) as u8,
-        (six % 256) as u8,
-        (seven % 256) as u8,
-        (bits % 256) as u8,
-    ];
     let t = table();
-    let crc = over_bytes(&t, 0, &bytes);
+    let crc = over_bytes(&t, 0, &bits.to_be_bytes());
     over_bytes(&t, crc, rest)
 }
 
 // Eight bytes at a time as one number; the register goes into the first two of them.
 fn update_by_words(crc: u16, bytes: &[u8]) -> u16
-    requires { 8 ≤ length bytes.now }
+    requires { 16 ≤ length bytes.now }
     ensures { result ≡ crc_over crc bytes.now }
 {
-    let n = bytes.len() / 8 * 8;
-    let mut bits = ((crc as u64) * 0x1_0000_0000_0000) ^ word_of(&bytes[..8]);
-    let mut i = 8;
-    while i < n {
-        let e = i + 8;
-        bits = fold(bits, word_of(&bytes[i..e]));
-        i = e;
+    let (words, rest) = bytes.as_chunks::<8>();
+    let mut bits = ((crc as u64) * 0x1_0000_0000_0000) ^ u64::from_be_bytes(words[0]);
+    for &word in &words[1..] {
+        bits = fold(bits, u64::from_be_bytes(word));
     }
-    settle(bits, &bytes[n..])
+    settle(bits, rest)
 }
 
 // The register after all of `bytes`.

@@ -3,7 +3,7 @@ use Rattle.std.proofs.Common.{◌≡◌, ℕ, ◌+◌, ◌-◌, ◌*◌, ◌/◌
 use lib.ListN.{length-replicate, replicate-append-replicate}
 use types.Run.{OneOf, miss}
 use denote.Enum.Declared.{tag_of}
-use Rattle.promise.specs.Told.{Told, number}
+use Rattle.promise.specs.Told.{Told}
 use Rattle.promise.specs.Rules.{or_refuse}
 use Rattle.protocol.specs.declared.CommandBlock.{CommandBlock}
 use Rattle.protocol_reply.specs.Sectors.{sectors_in}
@@ -19,16 +19,18 @@ use Rattle.run_turn.specs.Turn.{is_write, lent_to}
 use Rattle.mock.specs.declared.device.MockState.{MockState}
 use Rattle.deck_block.specs.declared.Request.{Request}
 use Rattle.deck_block.specs.declared.Request.TheVariants as request
-use Rattle.deck_block.specs.declared.CardAnswer.{CardAnswer}
-use Rattle.deck_block.specs.declared.CardAnswer.TheVariants as answer
-use Rattle.deck_block.specs.contracts.CardAnswer.{the_type}
 use Rattle.deck_block.specs.contracts.Request as requests
-use Rattle.deck_block.specs.Reading.{card_told, read_card}
+use Rattle.deck_block.specs.Reading.{card_error_number, card_told, read_card}
 use Rattle.deck.specs.declared.verdict.Dealt.{Dealt}
 use Rattle.deck.specs.Deal.{Head, head, away, turned_away, DealMeets}
 use Rattle.deck.proofs.VerdictLaws.{away_deal}
 use Rattle.deck.specs.Dealing.{operate, load_of, load, carry_out, deal_asked, deal_block}
 use Rattle.deck.specs.Code.{room, plain_start}
+use Rattle.std.specs.Prelude.{Result}
+use Rattle.rule_number.specs.Number.{number_of}
+use Rattle.deck_block.specs.declared.CardError.{CardError}
+use Rattle.std.specs.declared.result.Result.TheVariants.{Ok, Err}
+use Rattle.deck_block.specs.declared.CardError.TheVariants as card_error
 
 -- the first n bytes of the room
 pub take_filled : (n fill : ℕ) (l : List ℕ) → l ≡ replicate room fill → n ≤ room → take n l ≡ replicate n fill
@@ -100,32 +102,35 @@ plain r flash store tag asked op h k e m =
     subst (DealMeets r flash store) (ap (λ (o : UsbOperation). operate o [] h) e ∙ plain_carried tag asked h k) m
 
 -- by what the block was read as
-pub as_dealt : (r : Dealt) (flash store : List ℕ) (tag : ℕ) (block : List ℕ) (card : CardAnswer) (h : Head) → card_told card ≡ read_card tag block
+pub as_dealt : (r : Dealt) (flash store : List ℕ) (tag : ℕ) (block : List ℕ) (card : Result Request CardError) (h : Head) → card_told card ≡ read_card tag block
     → DealMeets r flash store (deal_asked tag (card_told card) h) → DealMeets r flash store (deal_block tag block h)
 unfolding deal_block
 as_dealt r flash store tag block card h e m = subst (λ (t : Told Request). DealMeets r flash store (deal_asked tag t h)) e m
 
-pub asked_card : (card : CardAnswer) (r : Dealt) (flash store : List ℕ) (asked : Request) (tag : ℕ) (h : Head) → card ≡ answer.Asks asked
+pub asked_card : (card : Result Request CardError) (r : Dealt) (flash store : List ℕ) (asked : Request) (tag : ℕ) (h : Head) → card ≡ Ok asked
     → DealMeets r flash store (carry_out tag asked h) → DealMeets r flash store (deal_asked tag (card_told card) h)
 unfolding deal_asked card_told
 asked_card card r flash store asked tag h e m =
-    subst (λ (a : CardAnswer). DealMeets r flash store (deal_asked tag (card_told a) h)) (sym e) m
+    subst (λ (a : Result Request CardError). DealMeets r flash store (deal_asked tag (card_told a) h)) (sym e) m
 
 -- a block that asks for nothing is turned away by its number
-away_by : (card : CardAnswer) → OneOf (1 ∷ 2 ∷ 3 ∷ 4 ∷ 5 ∷ 6 ∷ 7 ∷ []) (tag_of the_type card) → (tag : ℕ) (h : Head) → deal_asked tag (card_told card) h ≡ away (number (card_told card)) h
-unfolding deal_asked card_told number
-away_by (answer.Asks asked) k tag h = absurd (miss (1 ∷ 2 ∷ 3 ∷ 4 ∷ 5 ∷ 6 ∷ 7 ∷ []) 0 tt k)
-away_by answer.Short k tag h = refl
-away_by answer.BadCheck k tag h = refl
-away_by answer.WithdrawnKind k tag h = refl
-away_by answer.UnknownKind k tag h = refl
-away_by answer.NotZero k tag h = refl
-away_by answer.TooLarge k tag h = refl
-away_by answer.UnknownReset k tag h = refl
+away_by : (error : CardError) (tag : ℕ) (h : Head) → deal_asked tag (card_told (Err error)) h ≡ away (card_error_number error) h
+unfolding deal_asked card_told
+away_by card_error.Short tag h = refl
+away_by card_error.BadCheck tag h = refl
+away_by card_error.WithdrawnKind tag h = refl
+away_by card_error.UnknownKind tag h = refl
+away_by card_error.NotZero tag h = refl
+away_by card_error.TooLarge tag h = refl
+away_by card_error.UnknownReset tag h = refl
 
-pub refused_card : (card : CardAnswer) → OneOf (1 ∷ 2 ∷ 3 ∷ 4 ∷ 5 ∷ 6 ∷ 7 ∷ []) (tag_of the_type card) → (r : Dealt) (tag : ℕ) (device : MockState) (flash store : List ℕ) (n : ℕ)
-    → n ≡ number (card_told card) → r ≡ turned_away n device → DealMeets r flash store (deal_asked tag (card_told card) (head device flash store))
-refused_card card k r tag device flash store n e m =
-    subst (DealMeets r flash store) (sym (away_by card k tag (head device flash store)))
-    (subst (λ (d : Dealt). DealMeets d flash store (away (number (card_told card)) (head device flash store))) (sym (m ∙ ap (λ (i : ℕ). turned_away i device) e))
-    (away_deal (number (card_told card)) device flash store))
+pub refused_card : (card : Result Request CardError) (error : CardError) → card ≡ Err error → (r : Dealt) (tag : ℕ) (device : MockState) (flash store : List ℕ) (n : ℕ)
+    → n ≡ number_of card_error_number card → r ≡ turned_away n device → DealMeets r flash store (deal_asked tag (card_told card) (head device flash store))
+refused_card card error is r tag device flash store n e m =
+    let h = head device flash store in
+    let away_so : deal_asked tag (card_told card) h ≡ away (card_error_number error) h =
+    ap (λ (a : Result Request CardError). deal_asked tag (card_told a) h) is ∙ away_by error tag h in
+    let told : n ≡ card_error_number error = e ∙ ap (number_of card_error_number) is in
+    subst (DealMeets r flash store) (sym away_so)
+    (subst (λ (d : Dealt). DealMeets d flash store (away (card_error_number error) h)) (sym (m ∙ ap (λ (i : ℕ). turned_away i device) told))
+    (away_deal (card_error_number error) device flash store))

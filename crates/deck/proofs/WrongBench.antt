@@ -4,12 +4,13 @@ use Rattle.promise.specs.Told.{Told, given, refused, and_then}
 use Rattle.promise.specs.Rules.{or_refuse}
 use Rattle.mock_base.specs.Flash.{flash_rules, flash_sectors}
 use Rattle.mock_base.specs.Told.{result_told}
-use Rattle.mock_base.specs.declared.error.MockResult.{MockResult}
-use Rattle.mock_base.specs.declared.error.MockResult.TheVariants.{Done}
 use Rattle.deck.specs.declared.bench.Bench.{Bench}
 use Rattle.deck.specs.declared.bench.BenchStart.{BenchStart}
 use Rattle.deck.specs.declared.bench.DeckStep.{DeckStep}
 use Rattle.deck.specs.Bench.{fresh_bench, start_told, start_flash, StartMeets, StepMeets}
+use Rattle.std.specs.Prelude.{Result}
+use Rattle.mock_base.specs.declared.error.MockTransportError.{MockTransportError}
+use Rattle.std.specs.declared.result.Result.TheVariants.{Ok}
 
 -- a bench whose first block has the tag 2
 pub first_block_is_2 : (r : BenchStart) (after flash : List ℕ) (n : ℕ) → r.bench.tag ≡ 1 → StartMeets r after flash n → ⊥
@@ -42,11 +43,11 @@ pub flash_as_lent : (r : BenchStart) (n : ℕ) → StartMeets r (replicate 512 1
 flash_as_lent r n m = let z : ◌≡◌ {A = ℕ} 1 0xFF = first_byte r (replicate 512 1) 1 n m in omega arith
 
 -- 60 told as done
-pub refusal_not_told : (r : BenchStart) (after : List ℕ) (b n : ℕ) → r.answer.result ≡ Done → StartMeets r after (replicate 256 b) n → ⊥
+pub refusal_not_told : (r : BenchStart) (after : List ℕ) (b n : ℕ) → r.answer.result ≡ Ok tt → StartMeets r after (replicate 256 b) n → ⊥
 unfolding result_told
 refusal_not_told r after b n e m =
     let told = m.tells.tells ∙ half in
-    let z : ◌≡◌ {A = ℕ} 0 1 = cc (told, ap (λ (x : MockResult). result_told x r.answer.signature) e) in omega arith
+    let z : ◌≡◌ {A = ℕ} 0 1 = cc (told, ap (λ (x : Result Unit MockTransportError). result_told x r.answer.signature) e) in omega arith
 
 -- a refused flash that is cleared all the same
 pub refused_flash_cleared : (r : BenchStart) (n : ℕ) → StartMeets r (replicate 256 0xFF) (replicate 256 1) n → ⊥

@@ -5,11 +5,11 @@ use Rattle.operation_finish.specs.declared.Beside.{Beside}
 use Rattle.mock.specs.declared.device.MockState.{MockState}
 use Rattle.deck_block.specs.declared.Request.{Request}
 use Rattle.deck_block.proofs.Wrong.{unknown, read_unknown, unchecked, read_unchecked, read_none}
-use Rattle.deck.specs.declared.verdict.Verdict.TheVariants.{Refused}
 use Rattle.deck.specs.declared.verdict.Dealt.{Dealt}
 use Rattle.deck.specs.Verdict.{verdict_told}
 use Rattle.deck.specs.Deal.{Head, head, Deal, away, DealMeets}
 use Rattle.deck.specs.Dealing.{deal_asked, deal_block}
+use Rattle.std.specs.declared.result.Result.TheVariants.{Err}
 
 -- no bytes at all are turned away by 44, a block of no kind by 41, one of kind 13 by 46
 deals_none : (h : Head) → deal_block 1 [] h ≡ away 44 h
@@ -34,7 +34,7 @@ fixed_verdict r flash store h none some =
 
 -- 41 told as 42
 pub kind_refusal_renamed : (b : Beside) (d : MockState) (flash store : List ℕ) (h : Head)
-    → DealMeets (record { verdict = Refused 42; beside = b; device = d }) flash store (deal_block 1 unknown h) → ⊥
+    → DealMeets (record { verdict = Err (record { 0 = 42 }); beside = b; device = d }) flash store (deal_block 1 unknown h) → ⊥
 unfolding verdict_told number
 kind_refusal_renamed b d flash store h m =
     let z : ◌≡◌ {A = ℕ} 42 41 = ap number (m.tells ∙ ap (λ (x : Deal). x.told) (deals_unknown h)) in omega arith

@@ -11,9 +11,9 @@ use Rattle.run_operation.specs.Answers as run
 use Rattle.run_upload.specs.declared.LoadRun.{LoadRun}
 use Rattle.run_upload.specs.Load.{LoadState}
 use Rattle.run_upload.specs.Answers as load
-use Rattle.deck.specs.declared.verdict.Verdict.TheVariants.{Refused}
 use Rattle.deck.specs.declared.verdict.Dealt.{Dealt}
 use Rattle.deck.specs.Verdict.{numbered, load_told, verdict_told, beside_dealt, kept}
+use Rattle.std.specs.declared.result.Result.TheVariants.{Err}
 
 -- the stand-in's record, and the flash and the store that are lent to it
 pub record Head : Type 0 where
@@ -62,4 +62,4 @@ pub record LoadedMeets (r : Dealt) (ran : LoadRun) : Type 0 where
   pub device : r.device ≡ ran.device
 
 abbrev pub turned_away : ℕ → MockState → Dealt
-turned_away number device = record { verdict = Refused number; beside = blank no_signature; device = device }
+turned_away number device = record { verdict = Err (record { 0 = number }); beside = blank no_signature; device = device }

@@ -1,14 +1,13 @@
 // A deck: one 512-byte block after the other, each dealt to the stand-in.
-ghost use Rattle.std.specs.Prelude.{◌≡◌, length, replicate};
-ghost use Rattle.mock_base.specs.Config.{default_byte};
+ghost use Rattle.std.specs.Prelude.{◌≡◌, length};
 ghost use Rattle.deck.specs.Bench.{StartMeets, StepMeets};
 
 use crate::dealing::deal_block;
-use crate::verdict::Verdict;
+use crate::verdict::RefusalNumber;
 use mock::config::MockDeviceConfig;
 use mock::device::MockState;
-use mock_base::error::{MockAnswer, MockResult};
-use operation_finish::Beside;
+use mock_base::error::MockAnswer;
+use operation_finish::{Beside, UsbReply};
 
 const DEFAULT_BYTE: u8 = 0xFF;
 
@@ -30,20 +29,9 @@ pub struct BenchStart {
 // What a block came to, and the bench after it; the block's number is the bench's.
 #[derive(Clone, Copy)]
 pub struct DeckStep {
-    pub verdict: Verdict,
+    pub verdict: Result<UsbReply, RefusalNumber>,
     pub beside: Beside,
     pub bench: Bench,
-}
-
-// Every byte as in a flash that was never written.
-fn clear(flash: &mut [u8])
-    ensures { flash.new ≡ replicate (length flash.old) default_byte }
-{
-    let mut i = 0;
-    while i < flash.len() {
-        flash[i] = DEFAULT_BYTE;
-        i += 1;
-    }
 }
 
 impl Bench {
@@ -52,40 +40,32 @@ impl Bench {
         ensures { StartMeets result flash.new flash.old (length store.now) }
     {
         let made = MockState::new(MockDeviceConfig::default(), flash, store);
-        let answer = made.answer;
-        let device = made.state;
-        let bench = Bench {
-            device,
-            number: 0,
-            tag: 0,
-        };
-        let result = answer.result;
-        let MockResult::Done = result else {
-            return BenchStart { answer, bench };
-        };
-        clear(flash);
-        BenchStart { answer, bench }
+        if let Ok(()) = made.answer.result {
+            // Every byte as in a flash that was never written.
+            flash.fill(DEFAULT_BYTE);
+        }
+        BenchStart {
+            answer: made.answer,
+            bench: Bench {
+                device: made.state,
+                number: 0,
+                tag: 0,
+            },
+        }
     }
 
     // Deals the next block. Refused ones count, too.
-    pub fn deal(self, block: &[u8], flash: &mut [u8], store: &mut [u8]) -> DeckStep
+    pub fn deal(mut self, block: &[u8], flash: &mut [u8], store: &mut [u8]) -> DeckStep
         ensures { StepMeets result flash.new store.new self block.now flash.old store.old }
     {
-        let number = std::num::wrapping_add_u64(self.number, 1);
-        let tag = std::num::wrapping_add_u32(self.tag, 1);
-        let held = self.device;
-        let dealt = deal_block(tag, block, held, flash, store);
-        let verdict = dealt.verdict;
-        let beside = dealt.beside;
-        let device = dealt.device;
+        self.number = self.number.wrapping_add(1);
+        self.tag = self.tag.wrapping_add(1);
+        let dealt = deal_block(self.tag, block, self.device, flash, store);
+        self.device = dealt.device;
         DeckStep {
-            verdict,
-            beside,
-            bench: Bench {
-                device,
-                number,
-                tag,
-            },
+            verdict: dealt.verdict,
+            beside: dealt.beside,
+            bench: self,
         }
     }
 }

@@ -9,7 +9,7 @@ ghost use Rattle.deck.specs.Dealing.{operate, load, load_of, carry_out, deal_blo
 ghost use Rattle.deck.specs.Code.{room, plain_start};
 
 use crate::verdict::{Dealt, loaded, operated, turned_away};
-use deck_block::{CardAnswer, Request, read_card};
+use deck_block::{Request, read_card};
 use maskrom::{WholeUpload, write_area};
 use mock::device::MockState;
 use operation::starts::{
@@ -17,6 +17,7 @@ use operation::starts::{
     storage, switch_storage, write_lba,
 };
 use operation::steps::UsbOperation;
+use rule_number::RuleNumber;
 use run_operation::{run_whole, run_whole_write};
 use run_upload::run_whole_upload;
 
@@ -49,8 +50,7 @@ fn read_sectors(
     let size = (count as usize) * 512;
     let mut data = filled(0);
     let start = read_lba(tag, first, size);
-    let operation = start.operation;
-    operated(run_whole(operation, device, flash, store, &mut data[..size]))
+    operated(run_whole(start.operation, device, flash, store, &mut data[..size]))
 }
 
 fn write_sectors(
@@ -68,8 +68,7 @@ fn write_sectors(
     let size = (count as usize) * 512;
     let data = filled(fill);
     let start = write_lba(tag, first, size);
-    let operation = start.operation;
-    operated(run_whole_write(operation, device, flash, store, &data[..size]))
+    operated(run_whole_write(start.operation, device, flash, store, &data[..size]))
 }
 
 // A whole upload that was just started.
@@ -100,8 +99,7 @@ fn upload_filled(
     let n = length as usize;
     let image = filled(fill);
     let start = write_area(area, &image[..n]);
-    let fresh = start.upload;
-    upload(fresh, device, flash, store, &image[..n])
+    upload(start.upload, device, flash, store, &image[..n])
 }
 
 // The operation of a request that brings no data of its own: storage, where it is none of the others.
@@ -109,15 +107,15 @@ fn plain_start(tag: u32, request: Request) -> UsbOperation
     ensures { result ≡ plain_start tag request }
 {
     match request {
-        Request::ChipInfo => return chip_info(tag),
-        Request::FlashId => return flash_id(tag),
-        Request::FlashInfo => return flash_info(tag),
-        Request::Capability => return capability(tag),
-        Request::EraseLba(first, count) => return erase_lba(tag, first, count),
-        Request::EraseForce(first, count) => return erase_force(tag, first, count),
-        Request::ResetDevice(opcode) => return reset_device(tag, opcode),
-        Request::SwitchStorage(index) => return switch_storage(tag, index),
-        _ => return storage(tag),
+        Request::ChipInfo => chip_info(tag),
+        Request::FlashId => flash_id(tag),
+        Request::FlashInfo => flash_info(tag),
+        Request::Capability => capability(tag),
+        Request::EraseLba(first, count) => erase_lba(tag, first, count),
+        Request::EraseForce(first, count) => erase_force(tag, first, count),
+        Request::ResetDevice(opcode) => reset_device(tag, opcode),
+        Request::SwitchStorage(index) => switch_storage(tag, index),
+        _ => storage(tag),
     }
 }
 
@@ -133,16 +131,14 @@ fn deal_request(
     ensures { DealMeets result flash.new store.new (carry_out tag request (head device flash.old store.old)) }
 {
     match request {
-        Request::ReadLba(first, count) => {
-            return read_sectors(tag, first, count, device, flash, store);
-        }
+        Request::ReadLba(first, count) => { read_sectors(tag, first, count, device, flash, store) }
         Request::WriteLba(first, count, fill) => {
-            return write_sectors(tag, first, count, fill, device, flash, store);
+            write_sectors(tag, first, count, fill, device, flash, store)
         }
         Request::WriteArea(area, length, fill) => {
-            return upload_filled(area, length, fill, device, flash, store);
+            upload_filled(area, length, fill, device, flash, store)
         }
-        _ => return command(plain_start(tag, request), device, flash, store),
+        _ => command(plain_start(tag, request), device, flash, store),
     }
 }
 
@@ -157,7 +153,7 @@ pub fn deal_block(
     ensures { DealMeets result flash.new store.new (deal_block tag block.now (head device flash.old store.old)) }
 {
     let card = read_card(tag, block);
-    let CardAnswer::Asks(request) = card else {
+    let Ok(request) = card else {
         return turned_away(card.number(), device);
     };
     deal_request(tag, request, device, flash, store)

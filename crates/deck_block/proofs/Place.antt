@@ -16,11 +16,13 @@ use Rattle.promise.proofs.Outcome.{on_test}
 use Rattle.crc.specs.Check.{start, bit_step, bits_step, byte_step, crc_over}
 use Rattle.crc.proofs.Laws.{over_append, over_lt, xor_bytes, over_linear}
 use Rattle.crc.proofs.OneToOne.{xor_nothing, over_one_to_one, bytes_one_to_one}
-use Rattle.deck_block.specs.declared.CardAnswer.{CardAnswer}
 use Rattle.deck_block.specs.Block.{block_length, checked_length, fields_of, block_check, first_check}
 use Rattle.deck_block.specs.Place.{RightAt, RightBefore, tag_after, RightFrom, tag_register, Apart}
 use Rattle.deck_block.specs.Blocks.{Whole}
 use Rattle.deck_block.specs.Reading.{card_told, read_by, read_card, read_before}
+use Rattle.std.specs.Prelude.{Result}
+use Rattle.deck_block.specs.declared.Request.{Request}
+use Rattle.deck_block.specs.declared.CardError.{CardError}
 
 -- the check goes on from the register behind the tag
 placed : (tag : ℕ) (block : List ℕ) → block_check tag block ≡ crc_over (tag_register tag) (take checked_length block)
@@ -116,7 +118,7 @@ not_40 right block long read =
     (λ e. absurd (read (wrong_check right block long (λ same. false≢true (sym e ∙ eq-eqb (fields_of block).check right same)))))
 
 -- the same for any caller of `read_card`, who has its answers alone
-pub told_elsewhere : (i j : ℕ) (block : List ℕ) (here there : CardAnswer) → i ≤ 65535 → j ≤ 65535 → (i ≡ j → ⊥) → block_length ≤ length block
+pub told_elsewhere : (i j : ℕ) (block : List ℕ) (here there : Result Request CardError) → i ≤ 65535 → j ≤ 65535 → (i ≡ j → ⊥) → block_length ≤ length block
     → card_told here ≡ read_card i block → card_told there ≡ read_card j block → (card_told here ≡ refused 40 [] → ⊥) → card_told there ≡ refused 40 []
 told_elsewhere i j block here there hi hj other long a b read =
     b ∙ refused_elsewhere i j block hi hj other long (not_40 (block_check i block) block long (λ e. read (a ∙ e)))

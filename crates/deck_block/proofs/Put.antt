@@ -1,20 +1,14 @@
 -- A check put in its place.
-use Prim.Native.Nat.{ℕ, suc, ◌+◌, ◌≤◌, ◌<◌}
+use Prim.Native.Nat.{ℕ, ◌+◌, ◌≤◌, ◌<◌}
 use mathlib.Core.Path.{◌≡◌, refl, ap, ◌∙◌}
-use mathlib.Core.List.{List, [], ◌∷◌, ◌++◌, append_assoc, append-nil}
+use mathlib.Core.List.{List, [], ◌++◌, append-nil}
 use native.Mathlib.Omega.{arith}
 use borrow.Author.Tests.{lt-ltb, le-ltb}
-use lib.ListN.{length, take, drop, set, drop_of_length-le}
-use lib.Seq.{sets-eq}
+use lib.ListN.{length, take, drop, drop_of_length-le}
 use Rattle.promise.specs.Bytes.{high_first}
 use Rattle.promise.specs.Over.{over}
 use Rattle.promise.proofs.Order.{length_high_first}
 use Rattle.deck_block.specs.Block.{block_length, checked_length, block_check, with_check, put_check}
-
--- two bytes set, one after the other
-pub two_set : (at a b : ℕ) (l : List ℕ) → at + 2 ≤ length l → set (set l at a) (suc at) b ≡ over at (a ∷ b ∷ []) l
-unfolding over
-two_set at a b l h = sets-eq (a ∷ b ∷ []) l at h ∙ append_assoc (take at l) (a ∷ b ∷ []) (drop (at + 2) l)
 
 -- a short block stays, and in any other the check stands in its place
 pub put_in_short : (check : ℕ) (block : List ℕ) → length block < block_length → put_check check block ≡ block

@@ -14,12 +14,14 @@ use Rattle.promise.specs.Over.{over}
 use Rattle.crc.specs.Check.{bit_step, bits_step, byte_step, crc_over, check}
 use Rattle.deck_block.specs.declared.Request.{Request}
 use Rattle.deck_block.specs.declared.Request.TheVariants as request
-use Rattle.deck_block.specs.declared.CardAnswer.{CardAnswer}
-use Rattle.deck_block.specs.declared.CardAnswer.TheVariants as answer
 use Rattle.deck_block.specs.Block.{fields_of, block_check, first_check, with_check, put_check, all_zero, is_kind, unchecked_kind, too_large}
 use Rattle.deck_block.specs.Reading.{request_of, read_by, read_card, card_told}
 use Rattle.deck_block.proofs.Rechecked.{whole_block, right_there}
 use Rattle.deck_block.proofs.Place.{refused_elsewhere}
+use Rattle.std.specs.Prelude.{Result}
+use Rattle.deck_block.specs.declared.CardError.{CardError}
+use Rattle.std.specs.declared.result.Result.TheVariants.{Ok, Err}
+use Rattle.deck_block.specs.declared.CardError.TheVariants as card_error
 
 -- 510 bytes with the check of block 1 behind them
 abbrev pub sealed : List ℕ → List ℕ
@@ -120,75 +122,75 @@ elsewhere body enough =
     refused_elsewhere 1 2 (sealed body) (omega arith) (omega arith) (λ e. omega arith) long (right_there 1 body enough)
 
 -- a reader that refuses every block
-pub always_refusing : (r : CardAnswer) (n : ℕ) (values : List ℕ) → card_told r ≡ refused n values → card_told r ≡ read_card 1 chip → ⊥
+pub always_refusing : (r : Result Request CardError) (n : ℕ) (values : List ℕ) → card_told r ≡ refused n values → card_told r ≡ read_card 1 chip → ⊥
 always_refusing r n values told meets = let z : ◌≡◌ {A = ℕ} 0 1 = cc (told, meets, read_chip) in omega arith
 
 -- one answer for all blocks
-pub fixed_answer : (r : CardAnswer) → card_told r ≡ read_card 1 [] → card_told r ≡ read_card 1 chip → ⊥
+pub fixed_answer : (r : Result Request CardError) → card_told r ≡ read_card 1 [] → card_told r ≡ read_card 1 chip → ⊥
 fixed_answer r none some = always_refusing r 44 [] (none ∙ read_none) some
 
 -- one request for two kinds: the flash id asked for as the chip's
-pub one_request : card_told (answer.Asks request.ChipInfo) ≡ read_card 1 flash_id_lem → ⊥
+pub one_request : card_told (Ok request.ChipInfo) ≡ read_card 1 flash_id_lem → ⊥
 unfolding card_told
 one_request meets = let z : ◌≡◌ {A = ℕ} 0 1 = cc (meets, read_id) in omega arith
 
 -- the count read the low byte first
-pub little_endian : card_told (answer.Asks (request.EraseLba 0 0x0201)) ≡ read_card 1 erase → ⊥
+pub little_endian : card_told (Ok (request.EraseLba 0 0x0201)) ≡ read_card 1 erase → ⊥
 unfolding card_told
 little_endian meets = let z : ◌≡◌ {A = ℕ} 0x0201 0x0102 = cc (meets, read_erase) in omega arith
 
 -- kind 13 told as an unknown one, and still dealt
-pub withdrawn_as_unknown : card_told answer.UnknownKind ≡ read_card 1 unchecked → ⊥
+pub withdrawn_as_unknown : card_told (Err card_error.UnknownKind) ≡ read_card 1 unchecked → ⊥
 unfolding card_told
 withdrawn_as_unknown meets = let z : ◌≡◌ {A = ℕ} 41 46 = cc (meets, read_unchecked) in omega arith
 
-pub still_dealt : (q : Request) → card_told (answer.Asks q) ≡ read_card 1 unchecked → ⊥
+pub still_dealt : (q : Request) → card_told (Ok q) ≡ read_card 1 unchecked → ⊥
 unfolding card_told
 still_dealt q meets = let z : ◌≡◌ {A = ℕ} 0 1 = cc (meets, read_unchecked) in omega arith
 
 -- its check looked at behind its kind; and its bytes 8 to 509, or its image's length, before it
-pub withdrawn_before_check : card_told answer.WithdrawnKind ≡ read_card 2 unchecked → ⊥
+pub withdrawn_before_check : card_told (Err card_error.WithdrawnKind) ≡ read_card 2 unchecked → ⊥
 unfolding card_told
 withdrawn_before_check meets = let z : ◌≡◌ {A = ℕ} 46 40 = cc (meets, elsewhere (body 13 0 0 0 0 0) (lit≤ tt)) in omega arith
 
-pub withdrawn_after_zeros : card_told answer.NotZero ≡ read_card 1 unchecked_marked → ⊥
+pub withdrawn_after_zeros : card_told (Err card_error.NotZero) ≡ read_card 1 unchecked_marked → ⊥
 unfolding card_told
 withdrawn_after_zeros meets = let z : ◌≡◌ {A = ℕ} 42 46 = cc (meets, read_marked) in omega arith
 
-pub withdrawn_after_size : card_told answer.TooLarge ≡ read_card 1 unchecked_long → ⊥
+pub withdrawn_after_size : card_told (Err card_error.TooLarge) ≡ read_card 1 unchecked_long → ⊥
 unfolding card_told
 withdrawn_after_size meets = let z : ◌≡◌ {A = ℕ} 43 46 = cc (meets, read_long) in omega arith
 
 -- its length looked at behind its kind
-pub withdrawn_before_length : card_told answer.WithdrawnKind ≡ read_card 1 (13 ∷ []) → ⊥
+pub withdrawn_before_length : card_told (Err card_error.WithdrawnKind) ≡ read_card 1 (13 ∷ []) → ⊥
 unfolding card_told read_by or_refuse
 withdrawn_before_length meets = let z : ◌≡◌ {A = ℕ} 46 44 = cc (meets) in omega arith
 
 -- the kinds next to it, and one below all, told as withdrawn
-pub above_as_withdrawn : card_told answer.WithdrawnKind ≡ read_card 1 unknown_above → ⊥
+pub above_as_withdrawn : card_told (Err card_error.WithdrawnKind) ≡ read_card 1 unknown_above → ⊥
 unfolding card_told
 above_as_withdrawn meets = let z : ◌≡◌ {A = ℕ} 46 41 = cc (meets, read_above) in omega arith
 
-pub upload_as_withdrawn : card_told answer.WithdrawnKind ≡ read_card 1 long_image → ⊥
+pub upload_as_withdrawn : card_told (Err card_error.WithdrawnKind) ≡ read_card 1 long_image → ⊥
 unfolding card_told
 upload_as_withdrawn meets = let z : ◌≡◌ {A = ℕ} 46 43 = cc (meets, read_image) in omega arith
 
-pub none_as_withdrawn : card_told answer.WithdrawnKind ≡ read_card 1 unknown → ⊥
+pub none_as_withdrawn : card_told (Err card_error.WithdrawnKind) ≡ read_card 1 unknown → ⊥
 unfolding card_told
 none_as_withdrawn meets = let z : ◌≡◌ {A = ℕ} 46 41 = cc (meets, read_unknown) in omega arith
 
 -- an image of 8,193 bytes let through
-pub longer_images : (q : Request) → card_told (answer.Asks q) ≡ read_card 1 long_image → ⊥
+pub longer_images : (q : Request) → card_told (Ok q) ≡ read_card 1 long_image → ⊥
 unfolding card_told
 longer_images q meets = let z : ◌≡◌ {A = ℕ} 0 1 = cc (meets, read_image) in omega arith
 
 -- bytes 8 to 509 looked at before the kind
-pub kind_after_zeros : card_told answer.NotZero ≡ read_card 1 unknown → ⊥
+pub kind_after_zeros : card_told (Err card_error.NotZero) ≡ read_card 1 unknown → ⊥
 unfolding card_told
 kind_after_zeros meets = let z : ◌≡◌ {A = ℕ} 42 41 = cc (meets, read_unknown) in omega arith
 
 -- a block let through at another place
-pub another_place : (q : Request) → card_told (answer.Asks q) ≡ read_card 2 chip → ⊥
+pub another_place : (q : Request) → card_told (Ok q) ≡ read_card 2 chip → ⊥
 unfolding card_told
 another_place q meets = let z : ◌≡◌ {A = ℕ} 0 1 = cc (meets, elsewhere (body 1 0 0 0 0 0) (lit≤ tt)) in omega arith
 
@@ -235,11 +237,11 @@ unfolding over high_first low_first
 put_nowhere meets = let z : ◌≡◌ {A = ℕ} 0 1 = ap (λ (l : List ℕ). get_or l 511 0) meets in omega arith
 
 -- one number for two refusals
-pub one_number : (n : ℕ) → n ≡ number (card_told answer.Short) → n ≡ number (card_told answer.BadCheck) → ⊥
+pub one_number : (n : ℕ) → n ≡ number (card_told (Err card_error.Short)) → n ≡ number (card_told (Err card_error.BadCheck)) → ⊥
 unfolding number card_told
 one_number n short bad = omega arith
 
 -- a request numbered as a refusal
-pub request_refused : (q : Request) (n : ℕ) → suc n ≡ number (card_told (answer.Asks q)) → ⊥
+pub request_refused : (q : Request) (n : ℕ) → suc n ≡ number (card_told (Ok q)) → ⊥
 unfolding number card_told
 request_refused q n e = omega arith

@@ -8,9 +8,11 @@ use Rattle.protocol_codes.specs.Reading.{reset_of, storage_of}
 use Rattle.deck_block.specs.declared.Fields.{Fields}
 use Rattle.deck_block.specs.declared.Request.{Request}
 use Rattle.deck_block.specs.declared.Request.TheVariants as request
-use Rattle.deck_block.specs.declared.CardAnswer.{CardAnswer}
-use Rattle.deck_block.specs.declared.CardAnswer.TheVariants as answer
 use Rattle.deck_block.specs.Block.{block_length, fields_of, block_check, first_check, all_zero, is_kind, unchecked_kind, too_large, chip_info_kind, flash_id_kind, flash_info_kind, capability_kind, erase_lba_kind, erase_force_kind, read_kind, write_kind, reset_kind, storage_kind, switch_kind, most_deck_sectors, longest_image}
+use Rattle.std.specs.Prelude.{Result}
+use Rattle.deck_block.specs.declared.CardError.{CardError}
+use Rattle.std.specs.declared.result.Result.TheVariants.{Ok, Err}
+use Rattle.deck_block.specs.declared.CardError.TheVariants as card_error
 
 -- 45: "reset above 4"
 abbrev pub unknown_reset : ℕ
@@ -65,15 +67,24 @@ read_card tag block = read_by (block_check tag block) block
 abbrev pub read_before : List ℕ → Told Request
 read_before block = read_by (first_check block) block
 
-unfoldable pub card_told : CardAnswer → Told Request
-card_told (answer.Asks r) = given r
-card_told answer.Short = refused 44 []
-card_told answer.BadCheck = refused 40 []
-card_told answer.WithdrawnKind = refused 46 []
-card_told answer.UnknownKind = refused 41 []
-card_told answer.NotZero = refused 42 []
-card_told answer.TooLarge = refused 43 []
-card_told answer.UnknownReset = refused unknown_reset []
+abbrev pub card_error_number : CardError → ℕ
+card_error_number card_error.Short = 44
+card_error_number card_error.BadCheck = 40
+card_error_number card_error.WithdrawnKind = 46
+card_error_number card_error.UnknownKind = 41
+card_error_number card_error.NotZero = 42
+card_error_number card_error.TooLarge = 43
+card_error_number card_error.UnknownReset = unknown_reset
+
+unfoldable pub card_told : Result Request CardError → Told Request
+card_told (Ok r) = given r
+card_told (Err card_error.Short) = refused 44 []
+card_told (Err card_error.BadCheck) = refused 40 []
+card_told (Err card_error.WithdrawnKind) = refused 46 []
+card_told (Err card_error.UnknownKind) = refused 41 []
+card_told (Err card_error.NotZero) = refused 42 []
+card_told (Err card_error.TooLarge) = refused 43 []
+card_told (Err card_error.UnknownReset) = refused unknown_reset []
 
 -- a request within the bounds of 43
 unfoldable pub Fits : Request → Type 0

@@ -18,10 +18,7 @@ const CHECK_END: usize = CHECKED_BYTES + 2;
 fn over_block(crc: u16, block: &[u8]) -> u16
     ensures { result ≡ crc_over crc (take 510 block.now) }
 {
-    if block.len() < CHECKED_BYTES {
-        return crc::update(crc, block);
-    }
-    crc::update(crc, &block[..CHECKED_BYTES])
+    crc::update(crc, &block[..CHECKED_BYTES.min(block.len())])
 }
 
 // The check that a block had before its place was a part of it.
@@ -46,7 +43,5 @@ pub fn put_check(check: u16, block: &mut [u8])
     if block.len() < CHECK_END {
         return;
     }
-    let bytes = u16_to_be_bytes(check);
-    block[510] = bytes[0];
-    block[511] = bytes[1];
+    block[CHECKED_BYTES..CHECK_END].copy_from_slice(&u16_to_be_bytes(check));
 }

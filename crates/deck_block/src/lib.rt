@@ -5,13 +5,13 @@
 pub mod check;
 
 ghost use Rattle.std.specs.Prelude.{◌≡◌, ◌≤◌, length};
-ghost use Rattle.promise.specs.Told.{number};
 ghost use Rattle.deck_block.specs.Block.{fields_of, all_zero, is_kind, too_large};
-ghost use Rattle.deck_block.specs.Reading.{card_told, reset_request, switch_request, request_of, read_card};
+ghost use Rattle.deck_block.specs.Reading.{card_error_number, card_told, reset_request, switch_request, request_of, read_card};
 
 use check::block_check;
 use protocol_bytes::order::{u16_from_be_bytes, u32_from_be_bytes};
-use protocol_codes::{ResetOpcode, ResetRead, StorageIndex};
+use protocol_codes::{ResetOpcode, StorageIndex};
+use rule_number::RuleNumber;
 
 const CARD_BYTES: usize = 512;
 
@@ -19,7 +19,7 @@ const CARD_BYTES: usize = 512;
 const WITHDRAWN: u8 = 13;
 
 // What a block asks for: an operation with its address and count, or an upload with its area and length; then the fill byte.
-#[derive(Clone, Copy)]
+#[derive(Clone, Copy, Debug, PartialEq, Eq)]
 pub enum Request {
     ChipInfo,
     FlashId,
@@ -35,9 +35,9 @@ pub enum Request {
     WriteArea(u16, u32, u8),
 }
 
-#[derive(Clone, Copy)]
-pub enum CardAnswer {
-    Asks(Request),
+// The first of its rules that a block breaks.
+#[derive(Clone, Copy, Debug, PartialEq, Eq)]
+pub enum CardError {
     // 44, 40, 46, 41, 42, 43, 45
     Short,
     BadCheck,
@@ -48,26 +48,24 @@ pub enum CardAnswer {
     UnknownReset,
 }
 
-impl CardAnswer {
-    // Its number in the rules, 0 where the block asks for something.
-    pub fn number(self) -> u8
-        ensures { result ≡ number (card_told self) }
-    {
+impl RuleNumber for CardError {
+    ghost rule_number = { card_error_number };
+
+    fn number(self) -> u8 {
         match self {
-            CardAnswer::Asks(_) => 0,
-            CardAnswer::Short => 44,
-            CardAnswer::BadCheck => 40,
-            CardAnswer::WithdrawnKind => 46,
-            CardAnswer::UnknownKind => 41,
-            CardAnswer::NotZero => 42,
-            CardAnswer::TooLarge => 43,
-            CardAnswer::UnknownReset => 45,
+            CardError::Short => 44,
+            CardError::BadCheck => 40,
+            CardError::WithdrawnKind => 46,
+            CardError::UnknownKind => 41,
+            CardError::NotZero => 42,
+            CardError::TooLarge => 43,
+            CardError::UnknownReset => 45,
         }
     }
 }
 
 // The fields of a block: byte 0, bytes 1 to 4, bytes 5 and 6, byte 7, bytes 510 and 511.
-#[derive(Clone, Copy)]
+#[derive(Clone, Copy, Debug, PartialEq, Eq)]
 pub struct Fields {
     pub kind: u8,
     pub word: u32,
@@ -95,95 +93,83 @@ fn fields_of(block: &[u8]) -> Fields
 fn all_zero(bytes: &[u8]) -> bool
     ensures { result ≡ all_zero bytes.now }
 {
-    let mut i = 0;
-    while i < bytes.len() {
-        if bytes[i] != 0 {
-            return false;
-        }
-        i += 1;
-    }
-    true
+    bytes.iter().all(|&byte| byte == 0)
 }
 
 fn is_kind(kind: u8) -> bool
     ensures { result ≡ is_kind kind }
 {
-    if kind < 1 {
-        return false;
-    }
-    kind <= 12
+    (1..=12).contains(&kind)
 }
 
 fn too_large(f: Fields) -> bool
     ensures { result ≡ too_large f }
 {
-    let kind = f.kind;
-    match kind {
-        7 => 16 < f.half,
-        8 => 16 < f.half,
+    match f.kind {
+        7 | 8 => 16 < f.half,
         12 => 8192 < f.word,
         _ => false,
     }
 }
 
-fn reset_request(opcode: u8) -> CardAnswer
+fn reset_request(opcode: u8) -> Result<Request, CardError>
     ensures { card_told result ≡ reset_request opcode }
 {
-    let ResetRead::Known(reset) = ResetOpcode::from_number(opcode) else {
-        return CardAnswer::UnknownReset;
+    let Ok(reset) = ResetOpcode::try_from(opcode) else {
+        return Err(CardError::UnknownReset);
     };
-    CardAnswer::Asks(Request::ResetDevice(reset))
+    Ok(Request::ResetDevice(reset))
 }
 
 fn switch_request(index: u8) -> Request
     ensures { result ≡ switch_request index }
 {
-    Request::SwitchStorage(StorageIndex::from_number(index))
+    Request::SwitchStorage(StorageIndex::from(index))
 }
 
 // What the fields ask for; a kind that is none of the others is 12.
-fn request_of(f: Fields) -> CardAnswer
+fn request_of(f: Fields) -> Result<Request, CardError>
     ensures { card_told result ≡ request_of f }
 {
-    let kind = f.kind;
-    match kind {
-        1 => CardAnswer::Asks(Request::ChipInfo),
-        2 => CardAnswer::Asks(Request::FlashId),
-        3 => CardAnswer::Asks(Request::FlashInfo),
-        4 => CardAnswer::Asks(Request::Capability),
-        5 => CardAnswer::Asks(Request::EraseLba(f.word, f.half)),
-        6 => CardAnswer::Asks(Request::EraseForce(f.word, f.half)),
-        7 => CardAnswer::Asks(Request::ReadLba(f.word, f.half)),
-        8 => CardAnswer::Asks(Request::WriteLba(f.word, f.half, f.byte)),
-        9 => reset_request(f.byte),
-        10 => CardAnswer::Asks(Request::Storage),
-        11 => CardAnswer::Asks(switch_request(f.byte)),
-        _ => CardAnswer::Asks(Request::WriteArea(f.half, f.word, f.byte)),
-    }
+    let request = match f.kind {
+        1 => Request::ChipInfo,
+        2 => Request::FlashId,
+        3 => Request::FlashInfo,
+        4 => Request::Capability,
+        5 => Request::EraseLba(f.word, f.half),
+        6 => Request::EraseForce(f.word, f.half),
+        7 => Request::ReadLba(f.word, f.half),
+        8 => Request::WriteLba(f.word, f.half, f.byte),
+        9 => reset_request(f.byte)?,
+        10 => Request::Storage,
+        11 => switch_request(f.byte),
+        _ => Request::WriteArea(f.half, f.word, f.byte),
+    };
+    Ok(request)
 }
 
 // Reads the block that has this tag.
-pub fn read_card(tag: u32, block: &[u8]) -> CardAnswer
+pub fn read_card(tag: u32, block: &[u8]) -> Result<Request, CardError>
     ensures { card_told result ≡ read_card tag block.now }
 {
     if block.len() < CARD_BYTES {
-        return CardAnswer::Short;
+        return Err(CardError::Short);
     }
     let f = fields_of(block);
     if f.check != block_check(tag, block) {
-        return CardAnswer::BadCheck;
+        return Err(CardError::BadCheck);
     }
     if f.kind == WITHDRAWN {
-        return CardAnswer::WithdrawnKind;
+        return Err(CardError::WithdrawnKind);
     }
     if !is_kind(f.kind) {
-        return CardAnswer::UnknownKind;
+        return Err(CardError::UnknownKind);
     }
     if !all_zero(&block[8..510]) {
-        return CardAnswer::NotZero;
+        return Err(CardError::NotZero);
     }
     if too_large(f) {
-        return CardAnswer::TooLarge;
+        return Err(CardError::TooLarge);
     }
     request_of(f)
 }

@@ -1,5 +1,5 @@
 -- One block more of a chunk, the chunk so far, and its end.
-use Prim.Native.Nat.{ℕ, zero, suc, ◌+◌, ◌-◌, ◌*◌, ◌≤◌, ◌<◌}
+use Prim.Native.Nat.{ℕ, suc, ◌+◌, ◌-◌, ◌*◌, ◌≤◌, ◌<◌}
 use mathlib.Core.Path.{◌≡◌, refl, ap, ap₂, sym, subst, ◌∙◌}
 use mathlib.Core.Bool.{Bool, true, false}
 use mathlib.Core.List.{List, [], ◌∷◌, ◌++◌, append_assoc, append-nil}
@@ -22,16 +22,10 @@ use Rattle.deck_chunk.specs.declared.Deck.{Deck}
 use Rattle.deck_chunk.specs.declared.Lined.{Lined}
 use Rattle.deck_chunk.specs.declared.Progress.{Progress}
 use Rattle.deck_chunk.specs.Deck.{Table, table, Lines, lines, then_deal, table_after, deal_next, deal_blocks, deal_all}
-use Rattle.deck_chunk.specs.declared.ChunkAnswer.TheVariants.{Dealt, TooShort}
 use Rattle.deck_chunk.specs.Chunk.{chunk_told, Chunk, chunk_dealt, deal_chunk, ChunkMeets}
 use Rattle.promise.specs.Told.{given}
 use Rattle.deck_chunk.specs.Code.{LinedMeets, NextMeets, DoneMeets}
-
--- a part as long as itself
-pub whole_part : (n : ℕ) (l : List ℕ) → take (length (take n l)) l ≡ take n l
-whole_part zero l = refl
-whole_part (suc n) [] = refl
-whole_part (suc n) (x ∷ l) = ap (λ (k : List ℕ). x ∷ k) (whole_part n l)
+use Rattle.std.specs.declared.result.Result.TheVariants.{Ok, Err}
 
 -- a text that stands in a line's array
 module _ (r : Line) (text : List ℕ) (e : r ≡ line text) where
@@ -245,7 +239,7 @@ module _ (n i : ℕ) (chunk lent flash₀ store₀ : List ℕ) (deck₀ : Deck) 
 -- the whole chunk: 20, or all of its blocks
 module _ (deck : Deck) (chunk flash store buffer : List ℕ) where
   pub too_short : ltb (length buffer) (longest_line * begun (length chunk)) ≡ true
-      → ChunkMeets (record { answer = TooShort; deck = deck }) buffer flash store (deal_chunk chunk (table deck flash store) buffer)
+      → ChunkMeets (record { answer = Err (record {}); deck = deck }) buffer flash store (deal_chunk chunk (table deck flash store) buffer)
   unfolding deal_chunk or_refuse chunk_told
   too_short e = rw e (record { tells = refl; leaves = refl; lines = refl })
 
@@ -256,10 +250,10 @@ module _ (deck : Deck) (chunk flash store buffer : List ℕ) where
 
   pub all_dealt : (r : Progress) (after flash₁ store₁ : List ℕ) → ltb (length buffer) (longest_line * begun (length chunk)) ≡ false
       → DoneMeets r after flash₁ store₁ buffer (deal_all chunk (table deck flash store))
-      → ChunkMeets (record { answer = Dealt (record { blocks = r.blocks; bytes = r.bytes }); deck = r.deck }) after flash₁ store₁ (deal_chunk chunk (table deck flash store) buffer)
+      → ChunkMeets (record { answer = Ok (record { blocks = r.blocks; bytes = r.bytes }); deck = r.deck }) after flash₁ store₁ (deal_chunk chunk (table deck flash store) buffer)
   unfolding chunk_told
   all_dealt r after flash₁ store₁ e m =
-      subst (λ (c : Chunk). ChunkMeets (record { answer = Dealt (record { blocks = r.blocks; bytes = r.bytes }); deck = r.deck }) after flash₁ store₁ c) (sym (fits e))
+      subst (λ (c : Chunk). ChunkMeets (record { answer = Ok (record { blocks = r.blocks; bytes = r.bytes }); deck = r.deck }) after flash₁ store₁ c) (sym (fits e))
       (record {
         tells = ap₂ (λ (a b : ℕ). given (record { blocks = a; bytes = b })) m.blocks m.bytes;
         leaves = m.leaves;

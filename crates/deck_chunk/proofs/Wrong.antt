@@ -15,18 +15,18 @@ use Rattle.deck_line.specs.Line.{line_text}
 use Rattle.deck_block.specs.Blocks.{cut}
 use Rattle.deck_chunk.specs.declared.Deck.{Deck}
 use Rattle.deck_chunk.specs.declared.ChunkCount.{ChunkCount}
-use Rattle.deck_chunk.specs.declared.ChunkAnswer.TheVariants.{Dealt, TooShort}
 use Rattle.deck_chunk.specs.declared.ChunkStep.{ChunkStep}
 use Rattle.deck_chunk.specs.Deck.{Table, table, new_deck, deal_next, deal_blocks}
 use Rattle.deck_chunk.specs.Chunk.{chunk_told, deal_chunk, ChunkMeets}
+use Rattle.std.specs.declared.result.Result.TheVariants.{Ok, Err}
 
 -- 20 told as 0
-pub short_is_0 : 0 ≡ number (chunk_told TooShort) → ⊥
+pub short_is_0 : 0 ≡ number (chunk_told (Err (record {}))) → ⊥
 unfolding number chunk_told
 short_is_0 e = omega arith
 
 -- how many blocks were dealt, told as a refusal
-pub count_for_the_number : (count : ChunkCount) → count.blocks ≡ 1 → count.blocks ≡ number (chunk_told (Dealt count)) → ⊥
+pub count_for_the_number : (count : ChunkCount) → count.blocks ≡ 1 → count.blocks ≡ number (chunk_told (Ok count)) → ⊥
 unfolding number chunk_told
 count_for_the_number count one e = omega arith
 
@@ -47,14 +47,14 @@ abbrev begins : List ℕ
 begins = 1 ∷ []
 
 -- a chunk that is refused always: no blocks want no room
-pub always_refusing : (r : ChunkStep) (lines flash store : List ℕ) (t : Table) → r.answer ≡ TooShort
+pub always_refusing : (r : ChunkStep) (lines flash store : List ℕ) (t : Table) → r.answer ≡ Err (record {})
     → ChunkMeets r lines flash store (deal_chunk [] t []) → ⊥
 unfolding deal_chunk or_refuse chunk_told number
 always_refusing r lines flash store t e m =
     let z : ◌≡◌ {A = ℕ} 20 0 = ap number (sym (ap chunk_told e) ∙ m.tells) in omega arith
 
 -- a line for which there may be no room, put all the same
-pub room_not_looked_at : (r : ChunkStep) (lines flash store : List ℕ) (t : Table) (count : ChunkCount) → r.answer ≡ Dealt count
+pub room_not_looked_at : (r : ChunkStep) (lines flash store : List ℕ) (t : Table) (count : ChunkCount) → r.answer ≡ Ok count
     → ChunkMeets r lines flash store (deal_chunk begins t []) → ⊥
 unfolding deal_chunk or_refuse chunk_told number
 room_not_looked_at r lines flash store t count e m =
@@ -72,7 +72,7 @@ goes_on_after_44 r lines flash store before held b e m =
     let z : ◌≡◌ {A = ℕ} 0 1 = sym (ap flag e) ∙ ap (λ (t : Table). flag t.deck.is_over) m.leaves in omega arith
 
 -- a block that is dealt to a deck that is over
-pub dealt_when_over : (r : ChunkStep) (lines flash store before held : List ℕ) (b : Bench) (count : ChunkCount) → r.answer ≡ Dealt count → count.blocks ≡ 1
+pub dealt_when_over : (r : ChunkStep) (lines flash store before held : List ℕ) (b : Bench) (count : ChunkCount) → r.answer ≡ Ok count → count.blocks ≡ 1
     → ChunkMeets r lines flash store (deal_chunk begins (table (record { bench = b; is_over = true }) before held) (replicate 64 0)) → ⊥
 unfolding deal_chunk or_refuse deal_next deal_blocks cut chunk_told dealt_blocks
 dealt_when_over r lines flash store before held b count e one m =

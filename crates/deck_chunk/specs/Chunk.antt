@@ -6,15 +6,16 @@ use Rattle.promise.specs.Rules.{Rule, room_rule, too_short, or_refuse}
 use Rattle.deck_line.specs.Line.{longest_line}
 use Rattle.deck_block.specs.Blocks.{begun}
 use Rattle.deck_chunk.specs.declared.ChunkCount.{ChunkCount}
-use Rattle.deck_chunk.specs.declared.ChunkAnswer.{ChunkAnswer}
-use Rattle.deck_chunk.specs.declared.ChunkAnswer.TheVariants.{Dealt, TooShort}
 use Rattle.deck_chunk.specs.declared.ChunkStep.{ChunkStep}
 use Rattle.deck_chunk.specs.Deck.{Table, table, Lines, deal_all}
+use Rattle.std.specs.Prelude.{Result}
+use Rattle.rule_number.specs.declared.OutputTooShort.{OutputTooShort}
+use Rattle.std.specs.declared.result.Result.TheVariants.{Ok, Err}
 
 -- number and values of every answer
-unfoldable pub chunk_told : ChunkAnswer → Told ChunkCount
-chunk_told (Dealt count) = given count
-chunk_told TooShort = refused too_short []
+unfoldable pub chunk_told : Result ChunkCount OutputTooShort → Told ChunkCount
+chunk_told (Ok count) = given count
+chunk_told (Err e) = refused too_short []
 
 -- what a chunk comes to: what is told, the deck with what is lent to it, and the buffer for its lines
 pub record Chunk : Type 0 where

@@ -2,18 +2,17 @@
 
 #![tactic(auto)]
 
-ghost use Rattle.std.specs.Prelude.{◌≡◌, ◌+◌, ◌*◌, ◌≤◌, length, take};
-ghost use Rattle.promise.specs.Told.{number};
+ghost use Rattle.std.specs.Prelude.{◌≡◌, ◌+◌, ◌*◌, ◌^◌, ◌<◌, ◌≤◌, length, take};
 ghost use Rattle.promise.specs.Over.{over};
 ghost use Rattle.deck_line.specs.Line.{longest_line};
-ghost use Rattle.deck_block.specs.Blocks.{begun, block_at};
+ghost use Rattle.deck_block.specs.Blocks.{begun};
 ghost use Rattle.deck_chunk.specs.Deck.{table, new_deck, deal_next, deal_all};
-ghost use Rattle.deck_chunk.specs.Chunk.{chunk_told, deal_chunk, ChunkMeets};
+ghost use Rattle.deck_chunk.specs.Chunk.{deal_chunk, ChunkMeets};
 ghost use Rattle.deck_chunk.specs.Code.{LinedMeets, NextMeets, DoneMeets};
 
 use deck::bench::Bench;
 use deck_line::{Line, line_of};
-use lent_bytes;
+use rule_number::OutputTooShort;
 
 const BLOCK: usize = 512;
 
@@ -27,34 +26,16 @@ pub struct Deck {
 }
 
 // How many blocks were dealt, and how many bytes their lines have.
-#[derive(Clone, Copy)]
+#[derive(Clone, Copy, Debug, PartialEq, Eq)]
 pub struct ChunkCount {
     pub blocks: usize,
     pub bytes: usize,
 }
 
-#[derive(Clone, Copy)]
-pub enum ChunkAnswer {
-    Dealt(ChunkCount),
-    // 20: the buffer for the lines
-    TooShort,
-}
-
-impl ChunkAnswer {
-    // 0 for a chunk that was dealt.
-    pub fn number(self) -> u8
-        ensures { result ≡ number (chunk_told self) }
-    {
-        match self {
-            ChunkAnswer::Dealt(_) => 0,
-            ChunkAnswer::TooShort => 20,
-        }
-    }
-}
-
+// The count, or 20 for the buffer for the lines.
 #[derive(Clone, Copy)]
 pub struct ChunkStep {
-    pub answer: ChunkAnswer,
+    pub answer: Result<ChunkCount, OutputTooShort>,
     pub deck: Deck,
 }
 
@@ -73,37 +54,14 @@ struct Progress {
     bytes: usize,
 }
 
-// How many blocks so many bytes begin.
-fn begun_by(length: usize) -> usize
-    ensures { result ≡ begun length }
-{
-    let whole = length / BLOCK;
-    if length % BLOCK == 0 {
-        return whole;
-    }
-    whole + 1
-}
-
-// Where the block that starts there ends.
-fn end_of(from: usize, blocks: &[u8]) -> usize
-    requires { from ≤ length blocks.now }
-    ensures { result ≡ from + length (block_at from blocks.now) }
-{
-    if blocks.len() - from < BLOCK {
-        return blocks.len();
-    }
-    from + BLOCK
-}
-
 fn deal_line(bench: Bench, block: &[u8], flash: &mut [u8], store: &mut [u8]) -> Lined
     ensures { LinedMeets result flash.new store.new bench block.now flash.old store.old }
 {
     let step = bench.deal(block, flash, store);
-    let after = step.bench;
-    let verdict = step.verdict;
-    let beside = step.beside;
-    let line = line_of(after.number, verdict, beside);
-    Lined { line, bench: after }
+    Lined {
+        line: line_of(step.bench.number, step.verdict, step.beside),
+        bench: step.bench,
+    }
 }
 
 // Puts a line behind the bytes that are there, and says where the next one goes.
@@ -112,39 +70,31 @@ fn put_line(line: Line, at: usize, lines: &mut [u8]) -> usize
     ensures value { result ≡ at + line.used }
     ensures lines_after { lines.new ≡ over at (take line.used line.bytes) lines.old }
 {
-    let text = line.bytes;
-    let used = line.used;
-    lent_bytes::copy(&text[..used], &mut lines[at..]);
-    at + used
+    let end = at + line.used;
+    lines[at..end].copy_from_slice(&line.bytes[..line.used]);
+    end
 }
 
-// Deals the block that starts there, if the deck is not over.
+// Deals a block, if the deck is not over.
 fn deal_next(
-    progress: Progress,
-    from: usize,
-    blocks: &[u8],
+    mut progress: Progress,
+    block: &[u8],
     lines: &mut [u8],
     flash: &mut [u8],
     store: &mut [u8],
 ) -> Progress
-    requires { (from ≤ length blocks.now) × ((progress.bytes + longest_line ≤ length lines.old) × (progress.blocks ≤ from)) }
-    ensures { NextMeets result lines.new flash.new store.new progress lines.old (deal_next (block_at from blocks.now) (table progress.deck flash.old store.old)) }
+    requires { (progress.bytes + longest_line ≤ length lines.old) × (progress.blocks + 1 < 2 ^ 64) }
+    ensures { NextMeets result lines.new flash.new store.new progress lines.old (deal_next block.now (table progress.deck flash.old store.old)) }
 {
-    let deck = progress.deck;
-    if deck.is_over {
+    if progress.deck.is_over {
         return progress;
     }
-    let end = end_of(from, blocks);
-    let block = &blocks[from..end];
-    let is_over = block.len() < BLOCK;
-    let lined = deal_line(deck.bench, block, flash, store);
-    let bench = lined.bench;
-    let bytes = put_line(lined.line, progress.bytes, lines);
-    Progress {
-        deck: Deck { bench, is_over },
-        blocks: progress.blocks + 1,
-        bytes,
-    }
+    let lined = deal_line(progress.deck.bench, block, flash, store);
+    progress.deck.bench = lined.bench;
+    progress.deck.is_over = block.len() < BLOCK;
+    progress.bytes = put_line(lined.line, progress.bytes, lines);
+    progress.blocks += 1;
+    progress
 }
 
 // Deals every block of a chunk.
@@ -163,11 +113,8 @@ fn deal_blocks(
         blocks: 0,
         bytes: 0,
     };
-    let n = begun_by(blocks.len());
-    let mut i = 0;
-    while i < n {
-        progress = deal_next(progress, i * BLOCK, blocks, lines, flash, store);
-        i += 1;
+    for block in blocks.chunks(BLOCK) {
+        progress = deal_next(progress, block, lines, flash, store);
     }
     progress
 }
@@ -193,20 +140,19 @@ impl Deck {
     ) -> ChunkStep
         ensures { ChunkMeets result lines.new flash.new store.new (deal_chunk blocks.now (table self flash.old store.old) lines.old) }
     {
-        if lines.len() < LONGEST_LINE * begun_by(blocks.len()) {
+        if lines.len() < LONGEST_LINE * blocks.len().div_ceil(BLOCK) {
             return ChunkStep {
-                answer: ChunkAnswer::TooShort,
+                answer: Err(OutputTooShort),
                 deck: self,
             };
         }
         let done = deal_blocks(self, blocks, lines, flash, store);
-        let deck = done.deck;
         ChunkStep {
-            answer: ChunkAnswer::Dealt(ChunkCount {
+            answer: Ok(ChunkCount {
                 blocks: done.blocks,
                 bytes: done.bytes,
             }),
-            deck,
+            deck: done.deck,
         }
     }
 }

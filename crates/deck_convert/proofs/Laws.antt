@@ -11,8 +11,12 @@ use Rattle.deck_block.specs.Blocks.{blocks_of, joined, block_at}
 use Rattle.deck_block.proofs.Blocks.{blocks_next, no_blocks}
 use Rattle.deck_convert.specs.declared.Convert.{Convert}
 use Rattle.deck_convert.specs.Convert.{convert_blocks, convert_all, behind, behind_blocks, behind_all, ConvertMeets}
-use Rattle.deck_convert.specs.Code.{BlockMeets, block_end}
+use Rattle.deck_convert.specs.Code.{BlockMeets}
 use Rattle.deck_convert.proofs.OneBlock.{same_length}
+
+-- where the block ends that starts at `from`
+abbrev pub block_end : ℕ → ℕ → ℕ
+block_end from n = from + min block_length (n - from)
 
 -- `at` bytes of the chunk are converted: these, and then what is left of it, are the whole
 pub record OnTheWay (chunk₀ : List ℕ) (c₀ : Convert) (chunk : List ℕ) (c : Convert) (at : ℕ) : Type 0 where

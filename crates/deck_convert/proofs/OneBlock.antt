@@ -1,25 +1,24 @@
 -- One block: whether it is converted or left, how it is read, and that it is as long as it was.
-use Rattle.std.proofs.Common.{◌≡◌, ℕ, suc, ◌<◌, ◌≤◌, Bool, true, false, not, eqb, List, [], ◌∷◌, length, drop, set, sym, refl, ap, ◌∙◌, subst, arith, length-drop, ltb-false, ltb-true, le-ltb, lt-ltb, eq-eqb, ne_eqb, eqb-true}
+use Rattle.std.proofs.Common.{◌≡◌, ℕ, suc, ◌<◌, ◌≤◌, Bool, true, false, not, eqb, List, [], ◌∷◌, length, drop, set, sym, refl, ap, ◌∙◌, arith, length-drop, ltb-false, ltb-true, le-ltb, lt-ltb, eq-eqb, ne_eqb, eqb-true}
 use mathlib.Core.Bool.{false≢true}
-use types.Run.{OneOf, miss}
-use denote.Enum.Declared.{tag_of}
 use borrow.Author.Tests.{eqb-false}
 use Rattle.promise.specs.Told.{Told, refused}
 use Rattle.promise.specs.Rules.{pick, or_refuse}
 use Rattle.promise.proofs.Outcome.{by_test, on_test}
 use Rattle.deck_block.specs.declared.Request.{Request}
-use Rattle.deck_block.specs.declared.CardAnswer.{CardAnswer}
-use Rattle.deck_block.specs.declared.CardAnswer.TheVariants as answer
 use Rattle.deck_block.specs.Block.{block_length, fields_of, block_check, upload_kind, unchecked_kind}
 use Rattle.deck_block.specs.Place.{RightAt, tag_after}
 use Rattle.deck_block.specs.Blocks.{is_short}
 use Rattle.deck_block.specs.Reading.{card_told, read_by, read_card}
 use Rattle.deck_block.proofs.Rechecked.{whole_block}
 use Rattle.deck_block.proofs.Unique.{one_answer}
-use Rattle.deck_block.specs.contracts.CardAnswer as answers
 use Rattle.deck_convert.specs.declared.Convert.{Convert}
 use Rattle.deck_convert.specs.Convert.{is_unchecked, is_right, is_converted, is_left, as_upload, convert_block, counted, behind}
 use Rattle.deck_convert.specs.Code.{BlockMeets}
+use Rattle.std.specs.Prelude.{Result}
+use Rattle.deck_block.specs.declared.CardError.{CardError}
+use Rattle.std.specs.declared.result.Result.TheVariants.{Err}
+use Rattle.deck_block.specs.declared.CardError.TheVariants as card_error
 
 module _ (tag : ℕ) (block : List ℕ) where
   -- a short one and one of another kind are neither converted nor left
@@ -54,7 +53,7 @@ module _ (tag : ℕ) (block : List ℕ) where
         (λ e. rw (le-ltb (length block) block_length long, e) refl)
 
     -- `WithdrawnKind` is the answer exactly if the check is right
-    pub withdrawn_right : card_told answer.WithdrawnKind ≡ read_card tag block → is_right tag block ≡ true
+    pub withdrawn_right : card_told (Err card_error.WithdrawnKind) ≡ read_card tag block → is_right tag block ≡ true
     unfolding card_told
     withdrawn_right told =
         on_test (is_right tag block) (λ e. e)
@@ -62,14 +61,13 @@ module _ (tag : ℕ) (block : List ℕ) where
         (let wrong : read_card tag block ≡ refused 40 [] = read_unchecked ∙ ap {B = Told Request} (λ (b : Bool). pick b (refused 46 []) (refused 40 [])) e in
         let z : ◌≡◌ {A = ℕ} 46 40 = cc (told, wrong) in omega arith))
 
-    pub other_wrong : (a : CardAnswer) → OneOf (0 ∷ 1 ∷ 2 ∷ 4 ∷ 5 ∷ 6 ∷ 7 ∷ []) (tag_of answers.the_type a) → card_told a ≡ read_card tag block → is_right tag block ≡ false
+    pub other_wrong : (a : Result Request CardError) → (a ≡ Err card_error.WithdrawnKind → ⊥) → card_told a ≡ read_card tag block → is_right tag block ≡ false
     unfolding card_told
     other_wrong a other told =
         on_test (is_right tag block)
         (λ e. absurd
-        (let right : read_card tag block ≡ card_told answer.WithdrawnKind = read_unchecked ∙ ap {B = Told Request} (λ (b : Bool). pick b (refused 46 []) (refused 40 [])) e in
-        let is : a ≡ answer.WithdrawnKind = one_answer a answer.WithdrawnKind (read_card tag block) told (sym right) in
-        miss (0 ∷ 1 ∷ 2 ∷ 4 ∷ 5 ∷ 6 ∷ 7 ∷ []) 3 tt (subst (λ (x : CardAnswer). OneOf (0 ∷ 1 ∷ 2 ∷ 4 ∷ 5 ∷ 6 ∷ 7 ∷ []) (tag_of answers.the_type x)) is other)))
+        (let right : read_card tag block ≡ card_told (Err card_error.WithdrawnKind) = read_unchecked ∙ ap {B = Told Request} (λ (b : Bool). pick b (refused 46 []) (refused 40 [])) e in
+        other (one_answer a (Err card_error.WithdrawnKind) (read_card tag block) told (sym right))))
         (λ e. e)
 
   -- a converted one is whole, of kind 13 and right

@@ -4,10 +4,10 @@
 
 ghost use Rattle.std.specs.Prelude.{◌≡◌, ◌≤◌, length};
 ghost use Rattle.deck_convert.specs.Convert.{new_convert, as_upload, ConvertMeets};
-ghost use Rattle.deck_convert.specs.Code.{block_end, BlockMeets};
+ghost use Rattle.deck_convert.specs.Code.{BlockMeets};
 
 use deck_block::check::{block_check, put_check};
-use deck_block::{CardAnswer, read_card};
+use deck_block::{CardError, read_card};
 
 const BLOCK: usize = 512;
 
@@ -18,7 +18,7 @@ const WITHDRAWN: u8 = 13;
 
 // A deck between two chunks: the tag of its last block, how many blocks were converted, and how many of kind 13 were left as they are because their
 // check is wrong.
-#[derive(Clone, Copy)]
+#[derive(Clone, Copy, Debug, PartialEq, Eq)]
 pub struct Convert {
     pub tag: u32,
     pub converted: u64,
@@ -35,17 +35,6 @@ fn to_upload(tag: u32, block: &mut [u8])
     put_check(check, block);
 }
 
-// Where the block ends that starts here: the last may be short.
-fn block_end(from: usize, length: usize) -> usize
-    requires { from ≤ length }
-    ensures { result ≡ block_end from length }
-{
-    if length - from < BLOCK {
-        return length;
-    }
-    from + BLOCK
-}
-
 impl Convert {
     // A deck of which no block is converted yet.
     pub fn new() -> Convert
@@ -59,38 +48,35 @@ impl Convert {
     }
 
     // Converts one block.
-    fn convert_block(self, block: &mut [u8]) -> Convert
+    fn convert_block(mut self, block: &mut [u8]) -> Convert
         requires { length block.old ≤ 512 }
         ensures { BlockMeets result block.new block.old self }
     {
-        let mut next = self;
-        next.tag = std::num::wrapping_add_u32(self.tag, 1);
+        self.tag = self.tag.wrapping_add(1);
         if block.len() < BLOCK {
-            return next;
+            return self;
         }
         if block[0] != WITHDRAWN {
-            return next;
+            return self;
         }
-        let CardAnswer::WithdrawnKind = read_card(next.tag, block) else {
-            next.left = std::num::wrapping_add_u64(self.left, 1);
-            return next;
+        let Err(CardError::WithdrawnKind) = read_card(self.tag, block) else {
+            self.left = self.left.wrapping_add(1);
+            return self;
         };
-        to_upload(next.tag, block);
-        next.converted = std::num::wrapping_add_u64(self.converted, 1);
-        next
+        to_upload(self.tag, block);
+        self.converted = self.converted.wrapping_add(1);
+        self
     }
 
     // Converts a chunk's blocks where they stand, of which the last may be short: that one stays as it is, and is the deck's end.
-    pub fn convert_chunk(self, chunk: &mut [u8]) -> Convert
+    pub fn convert_chunk(mut self, chunk: &mut [u8]) -> Convert
         ensures { ConvertMeets result chunk.new chunk.old self }
     {
-        let mut convert = self;
-        let mut at = 0;
-        while at < chunk.len() {
-            let end = block_end(at, chunk.len());
-            convert = convert.convert_block(&mut chunk[at..end]);
-            at = end;
+        // By place and not by `chunks_mut`, whose contract does not say what the slice holds behind it.
+        for at in (0..chunk.len()).step_by(BLOCK) {
+            let end = chunk.len().min(at + BLOCK);
+            self = self.convert_block(&mut chunk[at..end]);
         }
-        convert
+        self
     }
 }

@@ -1,3 +1,2 @@
--- `Laws` is what the loops of `fill` and `write_out` come to, `Wrong` has programs that the contracts here rule out.
-pub mod Laws
+-- `Wrong` has programs that the contracts here rule out.
 pub mod Wrong

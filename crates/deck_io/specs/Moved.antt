@@ -5,10 +5,6 @@ use Rattle.std.specs.Prelude.{ℕ, ◌≤◌, ◌≡◌, Bool, true, false}
 abbrev pub Moved : Bool → ℕ → ℕ → Type 0
 Moved ended count whole = (count ≤ whole) × (ended ≡ false → count ≡ whole)
 
--- on the way there: `least` of them at least, unless there was an end
-abbrev pub Moving : Bool → ℕ → ℕ → ℕ → Type 0
-Moving ended least count whole = (count ≤ whole) × (ended ≡ false → least ≤ count)
-
 -- a read that has failed is the last
 abbrev pub EndsIf : Bool → Bool → Type 0
 EndsIf failed ended = failed ≡ true → ended ≡ true

@@ -11,19 +11,13 @@ pub mod output;
 ghost use Rattle.std.specs.Prelude.{min, ◌≡◌, length};
 ghost use Rattle.deck_io.specs.Counts.{IsPrefixLen};
 
-use std::io::{Error, ErrorKind};
-
 // How often a read or a write is made at most, where a signal interrupts it.
 pub(crate) const MOST_TRIES: usize = 1000;
-
-pub(crate) fn is_interrupted(why: Error) -> bool {
-    why.kind() == ErrorKind::Interrupted
-}
 
 // `n`, or the slice's length where that is less.
 pub fn within(n: usize, s: &[u8]) -> usize
     ensures prefix_len { IsPrefixLen result s.now }
     ensures value { result ≡ min n (length s.now) }
 {
-    if n < s.len() { n } else { s.len() }
+    n.min(s.len())
 }

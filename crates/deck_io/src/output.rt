@@ -1,60 +1,28 @@
 // Bytes to standard output, whatever the writes take.
-ghost use Rattle.std.specs.Prelude.{◌+◌, ◌<◌, length};
+ghost use Rattle.std.specs.Prelude.{length};
 ghost use Rattle.std.specs.Io.{WritesAtMost};
-ghost use Rattle.deck_io.specs.Moved.{Moved, Moving};
+ghost use Rattle.deck_io.specs.Moved.{Moved};
+ghost use Rattle.deck_io.specs.Output.{is_shut, written};
 
+use crate::MOST_TRIES;
 use crate::complaint::complain_why;
-use crate::{MOST_TRIES, is_interrupted};
-use std::io::{Result, Write};
+use std::io::{self, ErrorKind, Write};
 
-// How many bytes were written, and whether the output takes no more.
-#[derive(Clone, Copy)]
-pub struct Output {
-    pub count: usize,
-    pub is_shut: bool,
-}
+// The output takes no more, and took so many bytes before.
+#[derive(Clone, Copy, Debug, PartialEq, Eq)]
+pub struct Shut(pub usize);
 
 // A write that a signal interrupts is made again, though not for ever.
-fn write_some<W: Write>(to: &mut W, rest: &[u8]) -> Result<usize>
+fn write_some<W: Write>(to: &mut W, rest: &[u8]) -> io::Result<usize>
     ensures { WritesAtMost result rest.now }
 {
     for _ in 1..MOST_TRIES {
         match to.write(rest) {
-            Ok(count) => return Ok(count),
-            Err(why) => {
-                if !is_interrupted(why) {
-                    return Err(why);
-                }
-            }
+            Err(why) if why.kind() == ErrorKind::Interrupted => {}
+            written => return written,
         }
     }
     to.write(rest)
-}
-
-// One write of the bytes behind those that are written.
-fn write_behind<W: Write, E: Write>(
-    to: &mut W,
-    errors: &mut E,
-    bytes: &[u8],
-    at: usize,
-    what: &[u8],
-) -> Output
-    requires { at < length bytes.now }
-    ensures { Moving result.is_shut (at + 1) result.count (length bytes.now) }
-{
-    match write_some(to, &bytes[at..]) {
-        Ok(more) => Output {
-            count: at + more,
-            is_shut: more == 0,
-        },
-        Err(why) => {
-            complain_why(errors, what, why);
-            Output {
-                count: at,
-                is_shut: true,
-            }
-        }
-    }
 }
 
 // Writes all bytes, unless the output takes no more. Where a write fails, `what` is said before the system's reason.
@@ -62,19 +30,20 @@ pub fn write_out<W: Write, E: Write>(
     to: &mut W,
     errors: &mut E,
     bytes: &[u8],
-    what: &[u8],
-) -> Output
-    ensures { Moved result.is_shut result.count (length bytes.now) }
+    what: &str,
+) -> Result<usize, Shut>
+    ensures { Moved (is_shut result) (written result) (length bytes.now) }
 {
-    let mut output = Output {
-        count: 0,
-        is_shut: false,
-    };
-    for _ in 0..bytes.len() {
-        if output.is_shut || output.count >= bytes.len() {
-            return output;
+    let mut count = 0;
+    while count < bytes.len() {
+        match write_some(to, &bytes[count..]) {
+            Ok(0) => return Err(Shut(count)),
+            Ok(more) => count += more,
+            Err(why) => {
+                complain_why(errors, what, why);
+                return Err(Shut(count));
+            }
         }
-        output = write_behind(to, errors, bytes, output.count, what);
     }
-    output
+    Ok(count)
 }

@@ -16,12 +16,13 @@ use Rattle.operation_finish.specs.Reply.{Reply, chip_info, flash_id, flash_info,
 use Rattle.operation_finish.specs.declared.UsbReply.{UsbReply}
 use Rattle.operation_finish.specs.declared.Beside.{Beside}
 use Rattle.deck.specs.Verdict.{verdict_told}
-use Rattle.deck.specs.declared.verdict.Verdict.{Verdict}
 use Rattle.deck_line.specs.declared.Line.{Line}
 use Rattle.deck_line.specs.Digits.{digit, decimal, hex}
 use Rattle.deck_line.specs.Line.{space, dash, slash, line_feed, value_by, told_by, transfer_text, value_text, told_text, line_text, line, TransferSized, Sized, ToldSized}
 use Rattle.deck_line.specs.Code.{put_on, put_all, PutShort}
 use Rattle.deck_line.proofs.DigitLaws.{below_ten, from_ten, decimal_length, hex_length}
+use Rattle.std.specs.Prelude.{Result}
+use Rattle.deck.specs.declared.verdict.RefusalNumber.{RefusalNumber}
 
 -- a byte more, where there is room and where there is none
 pub with_room : (l : Line) (byte : ℕ) → l.used < 64 → put_on l byte ≡ record { bytes = set l.bytes l.used byte; used = l.used + 1 }
@@ -81,9 +82,9 @@ pub at_reply : (r l : Line) (b : Beside) {reply known : UsbReply} → reply ≡ 
     → PutShort r l (value_text (reply_given reply b))
 at_reply r l b e = subst (λ (k : UsbReply). PutShort r l (value_text (reply_given k b))) (sym e)
 
-pub at_verdict : (r l : Line) (b : Beside) {verdict known : Verdict} → verdict ≡ known → PutShort r l (told_text (verdict_told known b))
+pub at_verdict : (r l : Line) (b : Beside) {verdict known : (Result UsbReply RefusalNumber)} → verdict ≡ known → PutShort r l (told_text (verdict_told known b))
     → PutShort r l (told_text (verdict_told verdict b))
-at_verdict r l b e = subst (λ (k : Verdict). PutShort r l (told_text (verdict_told k b))) (sym e)
+at_verdict r l b e = subst (λ (k : Result UsbReply RefusalNumber). PutShort r l (told_text (verdict_told k b))) (sym e)
 
 -- 16 bytes at most, in hex
 pub put_bytes : (r l : Line) (bytes : List ℕ) → length bytes ≤ 16 → r ≡ put_all l (hex bytes) → PutShort r l (hex bytes)

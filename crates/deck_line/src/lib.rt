@@ -9,33 +9,18 @@ ghost use Rattle.deck_line.specs.Digits.{digit, decimal, hex};
 ghost use Rattle.deck_line.specs.Line.{transfer_text, value_text, told_text, line_text, line};
 ghost use Rattle.deck_line.specs.Code.{put_on, put_all, PutShort};
 
-use deck::verdict::Verdict;
+use deck::verdict::RefusalNumber;
 use operation_finish::{Beside, SectorTransfer, UsbReply};
+use rule_number::RuleNumber;
 
 // Two numbers of at most 20 and 3 digits, a value of at most 32, two spaces and a line feed: no text is longer than 58 bytes.
 const LONGEST: usize = 64;
 
 // The text is the first `used` bytes, and every other byte is 0.
-#[derive(Clone, Copy)]
+#[derive(Clone, Copy, Debug, PartialEq, Eq)]
 pub struct Line {
     pub bytes: [u8; 64],
     pub used: usize,
-}
-
-// One byte more, where there is room.
-fn put(start: Line, byte: u8) -> Line
-    ensures { result ≡ put_on start byte }
-{
-    let at = start.used;
-    if at < LONGEST {
-        let mut bytes = start.bytes;
-        bytes[at] = byte;
-        return Line {
-            bytes,
-            used: at + 1,
-        };
-    }
-    start
 }
 
 fn digit_of(value: u8) -> u8
@@ -48,94 +33,89 @@ fn digit_of(value: u8) -> u8
     b'a' - 10 + value
 }
 
-// The digits of its tenth part, if it has one, and its last.
-fn put_decimal(start: Line, number: u64) -> Line
-    ensures { result ≡ put_all start (decimal number) }
-{
-    let last = digit_of((number % 10) as u8);
-    if number < 10 {
-        return put(start, last);
+impl Line {
+    // One byte more, where there is room.
+    fn put(mut self, byte: u8) -> Line
+        ensures { result ≡ put_on self byte }
+    {
+        if LONGEST <= self.used {
+            return self;
+        }
+        self.bytes[self.used] = byte;
+        self.used += 1;
+        self
     }
-    put(put_decimal(start, number / 10), last)
-}
 
-fn put_hex(start: Line, bytes: &[u8]) -> Line
-    ensures { result ≡ put_all start (hex bytes.now) }
-{
-    let mut longer = start;
-    for i in 0..bytes.len() {
-        let byte = bytes[i];
-        longer = put(longer, digit_of(byte / 16));
-        longer = put(longer, digit_of(byte % 16));
+    // The digits of its tenth part, if it has one, and its last.
+    fn put_decimal(self, number: u64) -> Line
+        ensures { result ≡ put_all self (decimal number) }
+    {
+        let last = digit_of((number % 10) as u8);
+        if number < 10 {
+            return self.put(last);
+        }
+        self.put_decimal(number / 10).put(last)
     }
-    longer
-}
 
-// Bytes moved; and where the transfer was short, a slash and bytes asked.
-fn put_transfer(start: Line, transfer: SectorTransfer) -> Line
-    ensures { PutShort result start (transfer_text transfer) }
-{
-    match transfer {
-        SectorTransfer::Whole(count) => put_decimal(start, count.0 as u64),
-        SectorTransfer::Short(short) => {
-            let moved = short.moved;
-            let asked = short.asked;
-            let slashed = put(put_decimal(start, moved.0 as u64), b'/');
-            put_decimal(slashed, asked.0 as u64)
+    fn put_hex(mut self, bytes: &[u8]) -> Line
+        ensures { result ≡ put_all self (hex bytes.now) }
+    {
+        for &byte in bytes {
+            self = self.put(digit_of(byte / 16)).put(digit_of(byte % 16));
+        }
+        self
+    }
+
+    // Bytes moved; and where the transfer was short, a slash and bytes asked.
+    fn put_transfer(self, transfer: SectorTransfer) -> Line
+        ensures { PutShort result self (transfer_text transfer) }
+    {
+        match transfer {
+            SectorTransfer::Whole(count) => self.put_decimal(count.0 as u64),
+            SectorTransfer::Short(short) => self
+                .put_decimal(short.moved.0 as u64)
+                .put(b'/')
+                .put_decimal(short.asked.0 as u64),
         }
     }
-}
 
-// Bytes for chip info, flash id, flash info and capability, counts for sectors, and `-` for the others.
-fn put_value(start: Line, reply: UsbReply, beside: Beside) -> Line
-    ensures { PutShort result start (value_text (reply_given reply beside)) }
-{
-    match reply {
-        UsbReply::ChipInfo => {
-            let chip_info = beside.chip_info;
-            let bytes = chip_info.0;
-            put_hex(start, &bytes)
+    // Bytes for chip info, flash id, flash info and capability, counts for sectors, and `-` for the others.
+    fn put_value(self, reply: UsbReply, beside: Beside) -> Line
+        ensures { PutShort result self (value_text (reply_given reply beside)) }
+    {
+        match reply {
+            UsbReply::ChipInfo => self.put_hex(&beside.chip_info.0),
+            UsbReply::FlashId => self.put_hex(&beside.flash_id.0),
+            UsbReply::FlashInfo => self.put_hex(&beside.flash_info.0),
+            UsbReply::Capability => self.put_hex(&beside.capability.0),
+            UsbReply::Sectors(transfer) => self.put_transfer(transfer),
+            UsbReply::Nothing | UsbReply::Storage(_) => self.put(b'-'),
         }
-        UsbReply::FlashId => {
-            let flash_id = beside.flash_id;
-            let bytes = flash_id.0;
-            put_hex(start, &bytes)
-        }
-        UsbReply::FlashInfo => {
-            let flash_info = beside.flash_info;
-            let bytes = flash_info.0;
-            put_hex(start, &bytes)
-        }
-        UsbReply::Capability => {
-            let capability = beside.capability;
-            let bytes = capability.0;
-            put_hex(start, &bytes)
-        }
-        UsbReply::Sectors(transfer) => put_transfer(start, transfer),
-        UsbReply::Nothing => put(start, b'-'),
-        UsbReply::Storage(_) => put(start, b'-'),
     }
-}
 
-fn put_told(start: Line, verdict: Verdict, beside: Beside) -> Line
-    ensures { PutShort result start (told_text (verdict_told verdict beside)) }
-{
-    match verdict {
-        Verdict::Done(reply) => put_value(start, reply, beside),
-        Verdict::Refused(_) => put(start, b'-'),
+    fn put_told(self, verdict: Result<UsbReply, RefusalNumber>, beside: Beside) -> Line
+        ensures { PutShort result self (told_text (verdict_told verdict beside)) }
+    {
+        match verdict {
+            Ok(reply) => self.put_value(reply, beside),
+            Err(_) => self.put(b'-'),
+        }
     }
 }
 
 // The whole line of a block.
-pub fn line_of(number: u64, verdict: Verdict, beside: Beside) -> Line
+pub fn line_of(number: u64, verdict: Result<UsbReply, RefusalNumber>, beside: Beside) -> Line
     ensures { result ≡ line (line_text number (verdict_told verdict beside)) }
 {
     let empty = Line {
         bytes: [0u8; 64],
         used: 0,
     };
-    let numbered = put(put_decimal(empty, number), b' ');
-    let refusal = verdict.number();
-    let outcome = put(put_decimal(numbered, refusal as u64), b' ');
-    put(put_told(outcome, verdict, beside), b'\n')
+    empty
+        .put_decimal(number)
+        .put(b' ')
+        .put_decimal(verdict.number() as u64)
+        .put(b' ')
+        .put_told(verdict, beside)
+        .put(b'\n')
 }

@@ -1,7 +1,7 @@
 -- One block of a chunk, the chunk so far, and its end.
 use Rattle.std.proofs.Common.{◌≡◌, ℕ, ◌+◌, ◌-◌, ◌<◌, ◌≤◌, Bool, true, false, eqb, ◌⊎◌, List, [], ◌∷◌, ◌++◌, length, take, drop, sym, refl, ap, ◌∙◌, subst, ap₂, inl, inr, ⊎_elim, append_assoc, append-nil, arith, length-drop, take-append-drop, length-take, length-take-le, drop-drop, ltb-false, le-ltb, lt-ltb}
-use types.Run.{OneOf, miss}
-use denote.Enum.Declared.{tag_of}
+use Rattle.std.specs.Prelude.{Option}
+use Rattle.std.specs.declared.option.Option.TheVariants.{Some, None}
 use borrow.Rule.Slice.PartMut.{put_mid}
 use Rattle.promise.specs.Told.{Told, given, refused}
 use Rattle.promise.specs.Rules.{or_refuse}
@@ -14,12 +14,11 @@ use Rattle.deck_block.specs.Blocks.{is_short, blocks_of, block_at}
 use Rattle.deck_block.proofs.Blocks.{blocks_next, no_blocks}
 use Rattle.deck_block.proofs.Rechecked.{whole_block}
 use Rattle.deck_recheck.specs.declared.Stop.{Stop}
-use Rattle.deck_recheck.specs.declared.Stop.TheVariants.{NotYet, BadCheck, Short}
+use Rattle.deck_recheck.specs.declared.Stop.TheVariants.{BadCheck, Short}
 use Rattle.deck_recheck.specs.declared.Recheck.{Recheck}
 use Rattle.deck_recheck.specs.declared.RecheckStep.{RecheckStep}
 use Rattle.deck_recheck.specs.Recheck.{stop_told, Standing, standing, next_number, next_tag, behind, Written, written, first_rules, recheck_block, unless_stopped, recheck_next, then_write, recheck_blocks, recheck_all, RecheckMeets}
-use Rattle.deck_recheck.specs.Code.{step_at, BlockMeets, NextMeets}
-use Rattle.deck_recheck.specs.contracts.Stop as stops
+use Rattle.deck_recheck.specs.Code.{BlockMeets, NextMeets}
 
 -- what has stopped stays so
 abbrev pub IsStopped : Told Unit → Type 0
@@ -47,17 +46,17 @@ none_or_all block s (given done) e =
     either_way NoneOrAll _ (first_rules (next_number s) block) _ (λ number values. inl (refl, tt))
     (λ met. inr (whole_block (next_tag s) block (let long = ltb-false (length block) block_length met.0 in omega arith)))
 
-stops_it : (stop : Stop) (number : ℕ) → OneOf (1 ∷ 2 ∷ []) (tag_of stops.the_type stop) → IsStopped (stop_told stop number)
+stops_it : (stop : Stop) (number : ℕ) → IsStopped (stop_told (Some stop) number)
 unfolding stop_told
-stops_it NotYet number k = absurd (miss (1 ∷ 2 ∷ []) 0 tt k)
-stops_it BadCheck number k = tt
-stops_it Short number k = tt
+stops_it BadCheck number = tt
+stops_it Short number = tt
 
-pub next_none : (step : RecheckStep) (chunk block : List ℕ) → step.bytes ≤ length chunk → OneOf (1 ∷ 2 ∷ []) (tag_of stops.the_type step.recheck.stop)
-    → NextMeets step chunk step chunk (recheck_next block (standing step.recheck))
-next_none step chunk block inside k =
+pub next_none : (step : RecheckStep) (chunk block : List ℕ) (stop : Stop) → step.recheck.stop ≡ Some stop → step.bytes ≤ length chunk
+    → NextMeets step chunk step.bytes chunk (recheck_next block (standing step.recheck))
+next_none step chunk block stop e inside =
     let s = standing step.recheck in
-    subst (λ (w : Written). NextMeets step chunk step chunk w) (sym (stopped_none s.told s _ (stops_it step.recheck.stop step.recheck.number k)))
+    let stopped : IsStopped s.told = subst (λ (o : Option Stop). IsStopped (stop_told o step.recheck.number)) (sym e) (stops_it stop step.recheck.number) in
+    subst (λ (w : Written). NextMeets step chunk step.bytes chunk w) (sym (stopped_none s.told s _ stopped))
     (record { bytes = omega arith; next = refl; leaves = sym (over_nothing step.bytes chunk); inside = omega arith })
 
 -- a block of a deck that has not stopped: short, bad or right
@@ -83,8 +82,12 @@ over_same at n l h =
     ∙ ap (λ (x : List ℕ). take at l ++ (take n (drop at l) ++ x)) (sym (drop-drop n at l))
     ∙ ap (λ (x : List ℕ). take at l ++ x) (take-append-drop n (drop at l)) ∙ take-append-drop at l
 
+-- a deck at a block, with so many bytes of the chunk rechecked
+abbrev pub step_at : ℕ → ℕ → Option Stop → ℕ → RecheckStep
+step_at number tag stop bytes = record { bytes = bytes; recheck = record { number = number; tag = tag; stop = stop } }
+
 -- the block behind the bytes that are rechecked
-module _ (step : RecheckStep) (chunk : List ℕ) (number tag : ℕ) (r : RecheckStep) (e : step.recheck.stop ≡ NotYet)
+module _ (step : RecheckStep) (chunk : List ℕ) (number tag : ℕ) (r : RecheckStep) (e : step.recheck.stop ≡ None)
     (counts : number ≡ next_number (standing step.recheck)) (tags : tag ≡ next_tag (standing step.recheck)) where
   abbrev block : List ℕ
   block = block_at step.bytes chunk
@@ -94,16 +97,16 @@ module _ (step : RecheckStep) (chunk : List ℕ) (number tag : ℕ) (r : Recheck
 
   going : s.told ≡ given tt
   unfolding stop_told
-  going = ap (λ (stop : Stop). stop_told stop step.recheck.number) e
+  going = ap (λ (stop : Option Stop). stop_told stop step.recheck.number) e
 
   stands : (told : ℕ → Told Unit) → record { number = number; tag = tag; told = told number } ≡ behind s (told (next_number s))
   stands told = ap₂ (λ (n t : ℕ). record { number = n; tag = t; told = told n }) counts tags
 
-  pub next_short : r ≡ step_at number tag Short step.bytes → length chunk - step.bytes < 512 → step.bytes ≤ length chunk → NextMeets r chunk step chunk (recheck_next block s)
+  pub next_short : r ≡ step_at number tag (Some Short) step.bytes → length chunk - step.bytes < 512 → step.bytes ≤ length chunk → NextMeets r chunk step.bytes chunk (recheck_next block s)
   unfolding stop_told
   next_short is few inside =
       let short : length block < block_length = simp (length-take, length-drop) (omega arith) in
-      subst (λ (w : Written). NextMeets r chunk step chunk w) (sym (is_short_lem block s going (lt-ltb (length block) block_length short)))
+      subst (λ (w : Written). NextMeets r chunk step.bytes chunk w) (sym (is_short_lem block s going (lt-ltb (length block) block_length short)))
       (record {
         bytes = ap (λ (q : RecheckStep). q.bytes) is ∙ (omega arith);
         next = ap (λ (q : RecheckStep). standing q.recheck) is ∙ stands (λ n. refused 44 (n ∷ []));
@@ -121,14 +124,14 @@ module _ (step : RecheckStep) (chunk : List ℕ) (number tag : ℕ) (r : Recheck
     put_there : length left ≡ 512 → after ≡ over step.bytes left chunk
     put_there l = put ∙ put_over step.bytes k chunk left (l ∙ sym size)
 
-    pub next_bad : r ≡ step_at number tag BadCheck step.bytes → (right : Bool) → right ≡ false → BlockMeets right left tag block
-        → NextMeets r after step chunk (recheck_next block s)
+    pub next_bad : r ≡ step_at number tag (Some BadCheck) step.bytes → (right : Bool) → right ≡ false → BlockMeets right left tag block
+        → NextMeets r after step.bytes chunk (recheck_next block s)
     unfolding stop_told
     next_bad is right no-sum met =
         let m = subst (λ (b : Bool). BlockMeets b left tag block) no-sum met in
         let same : after ≡ chunk =
         put_there (ap length m.leaves ∙ block_long) ∙ ap (λ (l : List ℕ). over step.bytes l chunk) m.leaves ∙ over_same step.bytes 512 chunk long in
-        subst (λ (w : Written). NextMeets r after step chunk w) (sym (is_bad block s going not_short (sym m.right)))
+        subst (λ (w : Written). NextMeets r after step.bytes chunk w) (sym (is_bad block s going not_short (sym m.right)))
         (record {
           bytes = ap (λ (q : RecheckStep). q.bytes) is ∙ (omega arith);
           next = ap (λ (q : RecheckStep). standing q.recheck) is ∙ stands (λ n. refused 40 (n ∷ []));
@@ -136,15 +139,15 @@ module _ (step : RecheckStep) (chunk : List ℕ) (number tag : ℕ) (r : Recheck
           inside = omega arith;
         })
 
-    pub next_right : r ≡ step_at number tag NotYet (step.bytes + 512) → (right : Bool) → right ≡ true → BlockMeets right left tag block
-        → NextMeets r after step chunk (recheck_next block s)
+    pub next_right : r ≡ step_at number tag None (step.bytes + 512) → (right : Bool) → right ≡ true → BlockMeets right left tag block
+        → NextMeets r after step.bytes chunk (recheck_next block s)
     unfolding stop_told
     next_right is right sum met =
         let m = subst (λ (b : Bool). BlockMeets b left tag block) sum met in
         let enough : checked_length ≤ length block = let l = block_long in omega arith in
         let whole = whole_block (next_tag s) block enough in
         let new : left ≡ with_check (next_tag s) block = m.leaves ∙ ap (λ (t : ℕ). with_check t block) tags in
-        subst (λ (w : Written). NextMeets r after step chunk w) (sym (is_right_lem block s going not_short (sym m.right)))
+        subst (λ (w : Written). NextMeets r after step.bytes chunk w) (sym (is_right_lem block s going not_short (sym m.right)))
         (record {
           bytes = ap (λ (q : RecheckStep). q.bytes) is ∙ ap (λ (n : ℕ). step.bytes + n) (sym whole);
           next = ap (λ (q : RecheckStep). standing q.recheck) is ∙ stands (λ n. given tt);
@@ -191,7 +194,7 @@ ends_there chunk₀ s₀ step chunk way last =
 -- with one block more
 module _ (chunk₀ : List ℕ) (s₀ : Standing) (step : RecheckStep) (chunk : List ℕ) (way : OnTheWay chunk₀ s₀ step chunk) (more : step.bytes < length chunk)
     (r : RecheckStep) (after : List ℕ)
-    (m : NextMeets r after step chunk (recheck_next (block_at step.bytes chunk) (standing step.recheck))) where
+    (m : NextMeets r after step.bytes chunk (recheck_next (block_at step.bytes chunk) (standing step.recheck))) where
   abbrev w : Written
   w = recheck_next (block_at step.bytes chunk) (standing step.recheck)
 
@@ -249,6 +252,9 @@ module _ (chunk₀ : List ℕ) (s₀ : Standing) (step : RecheckStep) (chunk : L
         whole =
             ap (λ (n : ℕ). then_write (written (take r.bytes after) (standing r.recheck)) (λ next. recheck_blocks (blocks_of (drop n chunk₀)) next)) there ∙ opened;
       }
+
+  pub grew : (r.bytes ≡ step.bytes → ⊥) → r.bytes ≡ step.bytes + block_length
+  grew onward = ⊎_elim (λ stopped. absurd (onward (stood stopped.0))) (λ all. m.bytes ∙ ap (λ (n : ℕ). step.bytes + n) all) outcome
 
   pub goes_on : (r.bytes ≡ step.bytes → ⊥) → OnTheWay chunk₀ s₀ r after
   goes_on onward = ⊎_elim (λ stopped. absurd (onward (stood stopped.0))) went outcome

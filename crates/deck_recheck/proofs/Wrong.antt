@@ -1,5 +1,7 @@
 -- Programs that the contracts rule out, whatever their proofs: each answer is refuted at a named chunk.
 use Rattle.std.proofs.Common.{◌≡◌, ℕ, List, [], ◌∷◌, ◌++◌, length, get_or, replicate, sym, refl, ap, ◌∙◌, append-nil, arith, lit≤}
+use Rattle.std.specs.Prelude.{Option}
+use Rattle.std.specs.declared.option.Option.TheVariants.{Some}
 use Rattle.promise.specs.Told.{given, refused, number}
 use Rattle.promise.specs.Bytes.{front, low_first, high_first, from_low, from_high}
 use Rattle.crc.specs.Check.{bit_step, bits_step, byte_step, crc_over}
@@ -74,7 +76,7 @@ on_behind_a_bad_block r after second m =
 
 -- the same in a later call: a block that is lent behind a stop is rechecked
 abbrev stopped : Recheck
-stopped = record { number = 1; tag = 1; stop = BadCheck }
+stopped = record { number = 1; tag = 1; stop = Some BadCheck }
 
 pub on_in_a_later_call : (r : RecheckStep) (after : List ℕ) → r.bytes ≡ 512 → RecheckMeets r after right (recheck_all right (standing stopped)) → ⊥
 unfolding stop_told
@@ -102,26 +104,26 @@ tag_of_the_next r m =
     let z : ◌≡◌ {A = ℕ} 0x9a 0x75 = ap (λ (l : List ℕ). get_or l 510 0) same in omega arith
 
 -- every block refused
-pub always_refusing : (r : RecheckStep) (after : List ℕ) → r.recheck.stop ≡ BadCheck → RecheckMeets r after right (recheck_all right fresh) → ⊥
+pub always_refusing : (r : RecheckStep) (after : List ℕ) → r.recheck.stop ≡ Some BadCheck → RecheckMeets r after right (recheck_all right fresh) → ⊥
 unfolding stop_told number
 always_refusing r after refuses m =
     let told : stop_told r.recheck.stop r.recheck.number ≡ given tt = ap (λ (s : Standing). s.told) (m.next ∙ ap (λ (w : Written). w.leaves) rechecks_right) in
-    let z : ◌≡◌ {A = ℕ} 40 0 = ap (λ (s : Stop). number (stop_told s r.recheck.number)) (sym refuses) ∙ ap number told in omega arith
+    let z : ◌≡◌ {A = ℕ} 40 0 = ap (λ (s : Option Stop). number (stop_told s r.recheck.number)) (sym refuses) ∙ ap number told in omega arith
 
 -- a deck that starts at 1, or that has stopped before its first block
 pub starts_at_one : (r : Recheck) → r.number ≡ 1 → r ≡ new_recheck → ⊥
 starts_at_one r one e = let n : r.number ≡ 0 = ap (λ (d : Recheck). d.number) e in omega arith
 
-pub stopped_at_first : (r : Recheck) → r.stop ≡ Short → r ≡ new_recheck → ⊥
+pub stopped_at_first : (r : Recheck) → r.stop ≡ Some Short → r ≡ new_recheck → ⊥
 unfolding stop_told number
 stopped_at_first r stops e =
-    let z : ◌≡◌ {A = ℕ} 44 0 = ap (λ (s : Stop). number (stop_told s 0)) (sym stops ∙ ap (λ (d : Recheck). d.stop) e) in omega arith
+    let z : ◌≡◌ {A = ℕ} 44 0 = ap (λ (s : Option Stop). number (stop_told s 0)) (sym stops ∙ ap (λ (d : Recheck). d.stop) e) in omega arith
 
 -- one number for two refusals; a refusal told as 0
-pub one_number : (n : ℕ) → ((k : ℕ) → n ≡ number (stop_told BadCheck k)) → ((k : ℕ) → n ≡ number (stop_told Short k)) → ⊥
+pub one_number : (n : ℕ) → ((k : ℕ) → n ≡ number (stop_told (Some BadCheck) k)) → ((k : ℕ) → n ≡ number (stop_told (Some Short) k)) → ⊥
 unfolding stop_told number
 one_number n bad-check short = let a = bad-check 0 in let b = short 0 in omega arith
 
-pub stop_told_as_0 : ((k : ℕ) → 0 ≡ number (stop_told Short k)) → ⊥
+pub stop_told_as_0 : ((k : ℕ) → 0 ≡ number (stop_told (Some Short) k)) → ⊥
 unfolding stop_told number
 stop_told_as_0 e = let z = e 0 in omega arith

@@ -1,6 +1,7 @@
 -- "Decks made before must be rechecked by a small program that verifies the old sum of each block and writes the new one, stopping at the first bad or
 -- short block with its number".
-use Rattle.std.specs.Prelude.{◌≡◌, ℕ, ◌+◌, ◌%◌, ◌^◌, not, List, [], ◌∷◌, ◌++◌, length, ◌==◌}
+use Rattle.std.specs.Prelude.{◌≡◌, ℕ, ◌+◌, ◌%◌, ◌^◌, not, List, [], ◌∷◌, ◌++◌, length, ◌==◌, Option}
+use Rattle.std.specs.declared.option.Option.TheVariants.{Some, None}
 use Rattle.promise.specs.Told.{Told, given, refused}
 use Rattle.promise.specs.Rules.{Rule, rule, or_refuse}
 use Rattle.promise.specs.Bytes.{front}
@@ -8,15 +9,19 @@ use Rattle.deck_block.specs.Block.{fields_of, first_check, with_check}
 use Rattle.deck_block.specs.Place.{tag_after}
 use Rattle.deck_block.specs.Blocks.{is_short, blocks_of}
 use Rattle.deck_recheck.specs.declared.Stop.{Stop}
-use Rattle.deck_recheck.specs.declared.Stop.TheVariants.{NotYet, BadCheck, Short}
+use Rattle.deck_recheck.specs.declared.Stop.TheVariants.{BadCheck, Short}
 use Rattle.deck_recheck.specs.declared.Recheck.{Recheck}
 use Rattle.deck_recheck.specs.declared.RecheckStep.{RecheckStep}
 
+abbrev pub stop_number : Stop → ℕ
+stop_number BadCheck = 40
+stop_number Short = 44
+
 -- what has stopped a deck at the block with this number
-unfoldable pub stop_told : Stop → ℕ → Told Unit
-stop_told NotYet number = given tt
-stop_told BadCheck number = refused 40 (number ∷ [])
-stop_told Short number = refused 44 (number ∷ [])
+unfoldable pub stop_told : Option Stop → ℕ → Told Unit
+stop_told None number = given tt
+stop_told (Some BadCheck) number = refused 40 (number ∷ [])
+stop_told (Some Short) number = refused 44 (number ∷ [])
 
 -- a deck between two blocks: number and tag of the last one, and what is told so far
 pub record Standing : Type 0 where
@@ -29,7 +34,7 @@ standing r = record { number = r.number; tag = r.tag; told = stop_told r.stop r.
 
 -- no block yet
 abbrev pub new_recheck : Recheck
-new_recheck = record { number = 0; tag = 0; stop = NotYet }
+new_recheck = record { number = 0; tag = 0; stop = None }
 
 -- numbers and tags go on as the bench's do
 abbrev pub next_number : Standing → ℕ

@@ -6,46 +6,54 @@ ghost use Rattle.std.specs.Prelude.{◌≡◌, ℕ, ◌<◌, ◌≤◌, length, 
 ghost use Rattle.promise.specs.Told.{number};
 ghost use Rattle.deck_block.specs.Block.{fields_of, first_check, with_check};
 ghost use Rattle.deck_block.specs.Blocks.{block_at};
-ghost use Rattle.deck_recheck.specs.Recheck.{stop_told, standing, new_recheck, recheck_next, recheck_all, RecheckMeets};
-ghost use Rattle.deck_recheck.specs.Code.{step_at, BlockMeets, NextMeets};
+ghost use Rattle.deck_recheck.specs.Recheck.{stop_number, stop_told, standing, new_recheck, recheck_next, recheck_all, RecheckMeets};
+ghost use Rattle.deck_recheck.specs.Code.{BlockMeets, NextMeets};
 
 use deck_block::check::{block_check, first_check, put_check};
 use protocol_bytes::order::u16_from_be_bytes;
+use rule_number::RuleNumber;
 
 const BLOCK: usize = 512;
 
-// What has stopped a deck.
-#[derive(Clone, Copy)]
+// What stops a deck.
+#[derive(Clone, Copy, Debug, PartialEq, Eq)]
 pub enum Stop {
-    NotYet,
     // 40, 44
     BadCheck,
     Short,
 }
 
-impl Stop {
-    // Its number in the rules, 0 where nothing has.
-    pub fn number(self) -> u8
-        ensures { (k : ℕ) → result ≡ number (stop_told self k) }
-    {
+impl RuleNumber for Stop {
+    ghost rule_number = { stop_number };
+
+    fn number(self) -> u8 {
         match self {
-            Stop::NotYet => 0,
             Stop::BadCheck => 40,
             Stop::Short => 44,
         }
     }
 }
 
+// The number in the rules of what has stopped a deck, 0 where nothing has.
+pub fn stop_number(stop: Option<Stop>) -> u8
+    ensures { (k : ℕ) → result ≡ number (stop_told stop k) }
+{
+    match stop {
+        None => 0,
+        Some(stop) => stop.number(),
+    }
+}
+
 // A deck between two chunks: number and tag of its last block, and what has stopped it there.
-#[derive(Clone, Copy)]
+#[derive(Clone, Copy, Debug, PartialEq, Eq)]
 pub struct Recheck {
     pub number: u64,
     pub tag: u32,
-    pub stop: Stop,
+    pub stop: Option<Stop>,
 }
 
 // How many of the chunk's first bytes are rechecked, and the deck behind them.
-#[derive(Clone, Copy)]
+#[derive(Clone, Copy, Debug, PartialEq, Eq)]
 pub struct RecheckStep {
     pub bytes: usize,
     pub recheck: Recheck,
@@ -73,37 +81,38 @@ fn recheck_block(tag: u32, block: &mut [u8]) -> bool
     true
 }
 
-// A deck at this block, with so many bytes of the chunk rechecked.
-fn step_at(number: u64, tag: u32, stop: Stop, bytes: usize) -> RecheckStep
-    ensures { result ≡ step_at number tag stop bytes }
+// Rechecks the block that starts there, unless the deck has stopped.
+fn recheck_next(mut recheck: Recheck, from: usize, chunk: &mut [u8]) -> RecheckStep
+    requires { from < length chunk.old }
+    ensures { NextMeets result chunk.new from chunk.old (recheck_next (block_at from chunk.old) (standing recheck)) }
 {
-    RecheckStep {
-        bytes,
-        recheck: Recheck { number, tag, stop },
-    }
-}
-
-// Rechecks the block behind those that are rechecked, unless the deck has stopped.
-fn recheck_next(step: RecheckStep, chunk: &mut [u8]) -> RecheckStep
-    requires { step.bytes < length chunk.old }
-    ensures { NextMeets result chunk.new step chunk.old (recheck_next (block_at step.bytes chunk.old) (standing step.recheck)) }
-{
-    let recheck = step.recheck;
-    let stop = recheck.stop;
-    let Stop::NotYet = stop else {
-        return step;
+    let None = recheck.stop else {
+        return RecheckStep {
+            bytes: from,
+            recheck,
+        };
     };
-    let number = std::num::wrapping_add_u64(recheck.number, 1);
-    let tag = std::num::wrapping_add_u32(recheck.tag, 1);
-    let from = step.bytes;
+    recheck.number = recheck.number.wrapping_add(1);
+    recheck.tag = recheck.tag.wrapping_add(1);
     if chunk.len() - from < BLOCK {
-        return step_at(number, tag, Stop::Short, from);
+        recheck.stop = Some(Stop::Short);
+        return RecheckStep {
+            bytes: from,
+            recheck,
+        };
     }
     let end = from + BLOCK;
-    if !recheck_block(tag, &mut chunk[from..end]) {
-        return step_at(number, tag, Stop::BadCheck, from);
+    if !recheck_block(recheck.tag, &mut chunk[from..end]) {
+        recheck.stop = Some(Stop::BadCheck);
+        return RecheckStep {
+            bytes: from,
+            recheck,
+        };
     }
-    step_at(number, tag, Stop::NotYet, end)
+    RecheckStep {
+        bytes: end,
+        recheck,
+    }
 }
 
 impl Recheck {
@@ -114,25 +123,25 @@ impl Recheck {
         Recheck {
             number: 0,
             tag: 0,
-            stop: Stop::NotYet,
+            stop: None,
         }
     }
 
     // Rechecks a chunk's blocks, of which the last may be short, up to the first that is refused. Once the deck has stopped, nothing is rechecked.
-    pub fn recheck_chunk(self, chunk: &mut [u8]) -> RecheckStep
+    pub fn recheck_chunk(mut self, chunk: &mut [u8]) -> RecheckStep
         ensures { RecheckMeets result chunk.new chunk.old (recheck_all chunk.old (standing self)) }
     {
-        let mut step = RecheckStep {
-            bytes: 0,
-            recheck: self,
-        };
-        while step.bytes < chunk.len() {
-            let next = recheck_next(step, chunk);
-            if next.bytes == step.bytes {
-                return next;
+        // By place and not by `chunks_mut`, whose contract does not say what the slice holds behind it.
+        for from in (0..chunk.len()).step_by(BLOCK) {
+            let step = recheck_next(self, from, chunk);
+            if step.bytes == from {
+                return step;
             }
-            step = next;
+            self = step.recheck;
         }
-        step
+        RecheckStep {
+            bytes: chunk.len(),
+            recheck: self,
+        }
     }
 }

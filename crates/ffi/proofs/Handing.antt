@@ -7,37 +7,32 @@ use native.Mathlib.Omega.{arith}
 use lib.Dec.{eqb, ltb}
 use borrow.Author.Tests.{ne_eqb}
 use lib.ListN.{length, take, drop, length-take, length-drop}
-use types.Run.{OneOf, miss}
-use denote.Enum.Declared.{tag_of}
+use Rattle.std.specs.Prelude.{Result}
+use Rattle.std.specs.declared.result.Result.TheVariants.{Ok, Err}
 use Rattle.promise.specs.Told.{Told, given, refused, number}
 use Rattle.promise.specs.Rules.{or_refuse, Rule, rule, unless, pick, too_short}
 use Rattle.promise.specs.Does.{Does, does, Meets, said}
 use Rattle.maskrom_transfer.proofs.Lists.{take_min}
 use Rattle.maskrom.specs.declared.MaskRomOperation.{MaskRomOperation}
 use Rattle.maskrom_transfer.specs.Moves.{block_size}
-use Rattle.maskrom.specs.declared.PartStep.{PartStep}
-use Rattle.maskrom.specs.declared.PartStep.TheVariants.{Taken, WriteControl, OutputTooShort, AlreadyClosed, ImageTooLong}
-use Rattle.maskrom.specs.contracts.PartStep.{the_type}
-use Rattle.maskrom.specs.Answers.{part_told, longest, too_long, closed_already, control, Handed, took, filled}
+use Rattle.maskrom.specs.declared.PartError.{PartError}
+use Rattle.maskrom.specs.declared.PartError.TheVariants.{OutputTooShort, AlreadyClosed, ImageTooLong}
+use Rattle.maskrom.specs.Answers.{part_told, part_error_number, longest, too_long, closed_already, control, Handed, took, filled}
 use Rattle.maskrom.specs.PartWise.{waiting, held, closed, holding, takes, part_step}
 use Rattle.promise.specs.Run.{ends, goes, end_told, Ran, runs}
 use Rattle.promise.proofs.Loop.{On, goes_on, stops, spent}
-use Rattle.ffi.specs.declared.driving.PartPace.{PartPace}
-use Rattle.ffi.specs.declared.driving.PartPace.TheVariants.{Took, Refused}
 use Rattle.ffi.specs.declared.driving.HandedOver.{HandedOver}
 use Rattle.ffi.specs.Drive.{Handing, handing, on_part, part_turn}
 use Rattle.ffi.specs.Code.{HandsOver, part_pace}
 
 -- a part that took nothing is refused by its number
-pub refused_pace : (step : PartStep) → OneOf (2 ∷ 3 ∷ 4 ∷ []) (tag_of the_type step) → Refused (number (part_told step)) ≡ part_pace (part_told step)
-unfolding part_told part_pace number
-refused_pace (Taken n) k = absurd (miss (2 ∷ 3 ∷ 4 ∷ []) 0 tt k)
-refused_pace (WriteControl n c) k = absurd (miss (2 ∷ 3 ∷ 4 ∷ []) 1 tt k)
-refused_pace OutputTooShort k = refl
-refused_pace AlreadyClosed k = refl
-refused_pace ImageTooLong k = refl
+pub refused_pace : (error : PartError) → ◌≡◌ {A = Result ℕ ℕ} (Err (part_error_number error)) (part_pace (part_told (Err error)))
+unfolding part_told part_pace
+refused_pace OutputTooShort = refl
+refused_pace AlreadyClosed = refl
+refused_pace ImageTooLong = refl
 
-took_only : {C : Type 0} (n m : ℕ) → Took n ≡ Refused m → C
+took_only : {C : Type 0} (n m : ℕ) → ◌≡◌ {A = Result ℕ ℕ} (Ok n) (Err m) → C
 took_only n m e = absurd (let z : ◌≡◌ {A = ℕ} 0 1 = cc in omega arith)
 
 ending : Told Handed → Told Unit
@@ -45,19 +40,19 @@ ending (given a) = given tt
 ending (refused n vs) = refused n vs
 
 module _ (m : MaskRomOperation) (left out : List ℕ) where
-  pace_took : (t : Told Handed) (n : ℕ) → part_pace t ≡ Took n → on_part t m left out ≡ goes (handing m (drop n left) out)
+  pace_took : (t : Told Handed) (n : ℕ) → part_pace t ≡ Ok n → on_part t m left out ≡ goes (handing m (drop n left) out)
   unfolding part_pace on_part
   pace_took (given (took k)) n e = let same : k ≡ n = cc in ap (λ (x : ℕ). goes (handing m (drop x left) out)) same
   pace_took (given (filled k c)) n e = let same : k ≡ n = cc in ap (λ (x : ℕ). goes (handing m (drop x left) out)) same
   pace_took (refused k vs) n e = took_only n k (sym e)
 
-  pace_refused : (t : Told Handed) (n : ℕ) → part_pace t ≡ Refused n → on_part t m left out ≡ ends (ending t) (handing m left out)
+  pace_refused : (t : Told Handed) (n : ℕ) → part_pace t ≡ Err n → on_part t m left out ≡ ends (ending t) (handing m left out)
   unfolding part_pace on_part ending
   pace_refused (given (took k)) n e = took_only k n e
   pace_refused (given (filled k c)) n e = took_only k n e
   pace_refused (refused k vs) n e = refl
 
-pace_number : (t : Told Handed) (n : ℕ) → part_pace t ≡ Refused n → n ≡ number (ending t)
+pace_number : (t : Told Handed) (n : ℕ) → part_pace t ≡ Err n → n ≡ number (ending t)
 unfolding part_pace ending number
 pace_number (given (took k)) n e = took_only k n e
 pace_number (given (filled k c)) n e = took_only k n e
@@ -65,9 +60,9 @@ pace_number (refused k vs) n e = cc
 
 -- a part gives no more than it has
 
-Within : ℕ → PartPace → Type 0
-Within most (Took n) = n ≤ most
-Within most (Refused n) = Unit
+Within : ℕ → Result ℕ ℕ → Type 0
+Within most (Ok n) = n ≤ most
+Within most (Err n) = Unit
 
 pick_both : {A : Type 0} (P : A → Type 0) (b : Bool) (x y : A) → P x → P y → P (pick b x y)
 pick_both P true x y h k = h
@@ -95,9 +90,9 @@ part_within m part room =
     (pick_both (λ (d : Does Handed MaskRomOperation). Within (length part) (part_pace (given d.says))) (eqb (waiting m + length ys) block_size)
     (does (filled (length ys) (control m.area block_size)) (held m ++ ys) (holding m ys)) (does (took (length ys)) [] (holding m ys)) few few)
 
-pub took_within : (m : MaskRomOperation) (part : List ℕ) (room n : ℕ) → part_pace (said (part_step m part room)) ≡ Took n → n ≤ length part
+pub took_within : (m : MaskRomOperation) (part : List ℕ) (room n : ℕ) → part_pace (said (part_step m part room)) ≡ Ok n → n ≤ length part
 unfolding Within
-took_within m part room n e = subst (λ (p : PartPace). Within (length part) p) e (part_within m part room)
+took_within m part room n e = subst (λ (p : Result ℕ ℕ). Within (length part) p) e (part_within m part room)
 
 -- the bytes that are lent on are the next of what is left
 pub lent_part : (size from r : ℕ) (l : List ℕ) → r ≡ min size (length l - from) → take (from + r - from) (drop from l) ≡ take size (drop from l)
@@ -139,11 +134,11 @@ module _ (size budget : ℕ) (m₀ : MaskRomOperation) (image out₀ : List ℕ)
           let some : eqb (length left) 0 ≡ false = ne_eqb (length left) 0 (λ (z : length left ≡ 0). omega arith) in
           rw (some, meets.tells, meets.next, meets.leaves) refl
 
-      pub hand_on : (n : ℕ) → part_pace told ≡ Took n → Handling (used + 1) back (drop n left) after-out
+      pub hand_on : (n : ℕ) → part_pace told ≡ Ok n → Handling (used + 1) back (drop n left) after-out
       hand_on n e =
           goes_on (part_turn size) budget used (handing m left out) (handing back (drop n left) after-out) h (turned ∙ pace_took back left after-out told n e) on
 
-      pub hand_refused : (n : ℕ) → part_pace told ≡ Refused n → HandsOver (made n back) after-out whole
+      pub hand_refused : (n : ℕ) → part_pace told ≡ Err n → HandsOver (made n back) after-out whole
       unfolding end_told
       hand_refused n e =
           handed n back after-out _

@@ -1,15 +1,15 @@
 -- What an answer, read as a number, says of the rest of the call.
 use Prim.Native.Nat.{ℕ}
-use mathlib.Core.Path.{◌≡◌, refl, ap, sym, subst, ◌∙◌}
+use mathlib.Core.Path.{◌≡◌, refl, ap, subst, ◌∙◌}
 use mathlib.Core.List.{List, [], ◌∷◌}
-use native.Mathlib.Omega.{arith}
 use types.Run.{OneOf, miss}
 use denote.Enum.Declared.{tag_of}
 use Rattle.promise.specs.Told.{Told, given, refused, number}
-use Rattle.protocol_reply.specs.Sectors.{sector_told, sectors_in}
+use Rattle.protocol_reply.specs.Sectors.{sector_told, sectors_in, sector_error_number}
 use Rattle.protocol_reply.specs.declared.size.SectorCount.{SectorCount}
-use Rattle.protocol_reply.specs.declared.size.SectorAnswer.{SectorAnswer}
-use Rattle.protocol_reply.specs.declared.size.SectorAnswer.TheVariants.{Count, NotSectors, TooMany}
+use Rattle.protocol_reply.specs.declared.size.SectorError.{SectorError}
+use Rattle.protocol_reply.specs.declared.size.SectorError.TheVariants.{NotSectors, TooMany}
+use Rattle.std.specs.declared.result.Result.TheVariants.{Ok, Err}
 use Rattle.operation_finish.specs.declared.UsbReply.{UsbReply}
 use Rattle.operation_finish.specs.declared.UsbReply.TheVariants as usb
 use Rattle.operation_finish.specs.contracts.UsbReply as replies
@@ -30,21 +30,23 @@ use Rattle.ffi.specs.Sectors.{carried, SectorsMeet, counts_after, device, ran_to
 
 -- an operation whose data is no sectors is not run, and any other is
 module _ (operation : ℕ → UsbOperation) (flash bytes counts : List ℕ) where
-  pub carries_refused : (t : Told SectorCount) → (number t ≡ 0 → ⊥) → carries operation t flash bytes counts ≡ carried (number t) flash bytes counts
-  unfolding carries number
-  carries_refused (given count) h = absurd (h refl)
-  carries_refused (refused n vs) h = refl
+  not_run : (error : SectorError) → carried (sector_error_number error) flash bytes counts ≡ carries operation (sector_told (Err error)) flash bytes counts
+  unfolding carries sector_told
+  not_run NotSectors = refl
+  not_run TooMany = refl
 
-  carries_counted : (a : SectorAnswer) → number (sector_told a) ≡ 0
-      → carries operation (sector_told a) flash bytes counts ≡ run_at (operation (sectors_or0 (sector_told a))) flash bytes counts
-  unfolding carries number sector_told sectors_or0
-  carries_counted (Count count) e = refl
-  carries_counted NotSectors e = absurd (omega arith)
-  carries_counted TooMany e = absurd (omega arith)
+  pub carries_refused : (error : SectorError) (size : ℕ) → sector_told (Err error) ≡ sectors_in size
+      → carried (sector_error_number error) flash bytes counts ≡ carries operation (sectors_in size) flash bytes counts
+  carries_refused error size told = not_run error ∙ ap (λ (t : Told SectorCount). carries operation t flash bytes counts) told
 
-  pub carries_run : (a : SectorAnswer) (size : ℕ) (o : UsbOperation) → sector_told a ≡ sectors_in size → number (sector_told a) ≡ 0 → o ≡ operation (sectors_or0 (sectors_in size))
+  run_over : (count : SectorCount)
+      → run_at (operation (sectors_or0 (sector_told (Ok count)))) flash bytes counts ≡ carries operation (sector_told (Ok count)) flash bytes counts
+  unfolding carries sector_told sectors_or0
+  run_over count = refl
+
+  pub carries_run : (count : SectorCount) (size : ℕ) (o : UsbOperation) → sector_told (Ok count) ≡ sectors_in size → o ≡ operation (sectors_or0 (sectors_in size))
       → run_at o flash bytes counts ≡ carries operation (sectors_in size) flash bytes counts
-  carries_run a size o told some fresh = rw (fresh, ← told) (sym (carries_counted a some))
+  carries_run count size o told fresh = rw (fresh, ← told) (run_over count)
 
 told_number : (t : Told Reply) → number (numbered t) ≡ number t
 unfolding number numbered

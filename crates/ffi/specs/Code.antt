@@ -1,12 +1,11 @@
 -- What the private functions of the code promise.
-use Rattle.std.specs.Prelude.{ℕ, ◌≡◌, List}
+use Rattle.std.specs.Prelude.{ℕ, ◌≡◌, List, Result}
+use Rattle.std.specs.declared.result.Result.TheVariants.{Ok, Err}
+use Rattle.std.specs.declared.ops.ControlFlow.{ControlFlow}
+use Rattle.std.specs.declared.ops.ControlFlow.TheVariants.{Continue, Break}
 use Rattle.promise.specs.Told.{Told, given, refused, number}
 use Rattle.maskrom.specs.Answers.{Handed, took, filled, Asks, writes, finish}
 use Rattle.promise.specs.Run.{end_told, Ran}
-use Rattle.ffi.specs.declared.driving.Pace.{Pace}
-use Rattle.ffi.specs.declared.driving.Pace.TheVariants.{Goes, Ends}
-use Rattle.ffi.specs.declared.driving.PartPace.{PartPace}
-use Rattle.ffi.specs.declared.driving.PartPace.TheVariants.{Took, Refused}
 use Rattle.ffi.specs.declared.driving.HandedOver.{HandedOver}
 use Rattle.ffi.specs.Drive.{Handing}
 
@@ -17,12 +16,12 @@ pub record HandsOver (r : HandedOver) (out : List ℕ) (run : Ran Unit Handing) 
   pub leaves : out ≡ run.state.out
 
 -- what the code reads off an answer: whether one more call follows, how many bytes a part took, or the number that it ends with
-unfoldable pub pace_of : Told Asks → Pace
-pace_of (given (writes c)) = Goes
-pace_of (given finish) = Ends 0
-pace_of (refused n vs) = Ends n
+unfoldable pub pace_of : Told Asks → ControlFlow ℕ Unit
+pace_of (given (writes c)) = Continue tt
+pace_of (given finish) = Break 0
+pace_of (refused n vs) = Break n
 
-unfoldable pub part_pace : Told Handed → PartPace
-part_pace (given (took n)) = Took n
-part_pace (given (filled n c)) = Took n
-part_pace (refused n vs) = Refused n
+unfoldable pub part_pace : Told Handed → Result ℕ ℕ
+part_pace (given (took n)) = Ok n
+part_pace (given (filled n c)) = Ok n
+part_pace (refused n vs) = Err n

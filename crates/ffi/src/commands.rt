@@ -6,14 +6,14 @@ ghost use Rattle.protocol.specs.Commands.{read_lba_command};
 ghost use Rattle.protocol.specs.CommandBytes.{read_command, write_command};
 ghost use Rattle.ffi.specs.Command.{command_number};
 
-use protocol::{CommandAnswer, CommandBlock};
+use protocol::CommandBlock;
+use rule_number::RuleNumber;
 
 // A command as one number.
 fn number_of(block: CommandBlock) -> u64
     ensures { result ≡ command_number (given block) }
 {
-    let code = block.cd_code;
-    (code.number() as u64)
+    (u8::from(block.cd_code) as u64)
         + (block.cd_address as u64) * 0x100
         + (block.cd_length as u64) * 0x100_0000_0000
 }
@@ -22,18 +22,17 @@ fn number_of(block: CommandBlock) -> u64
 pub fn write_command(tag: u32, first: u32, sectors: u16, out: &mut [u8]) -> u8
     ensures { (result ≡ number (write_command (read_lba_command tag first sectors) (length out.old)).told) × (out.new ≡ front (write_command (read_lba_command tag first sectors) (length out.old)).sent out.old) }
 {
-    let written = CommandBlock::read_lba(tag, first, sectors).to_bytes(out);
-    written.number()
+    CommandBlock::read_lba(tag, first, sectors)
+        .to_bytes(out)
+        .number()
 }
 
 // Code, address and count of a command as one number, or the number of the refusal above them.
 pub fn read_command(bytes: &[u8]) -> u64
     ensures { result ≡ command_number (read_command bytes.now) }
 {
-    let parse = CommandBlock::from_bytes(bytes);
-    let answer = parse.answer;
-    match answer {
-        CommandAnswer::Block(block) => number_of(block),
-        CommandAnswer::Refused(error) => (error.number() as u64) * 0x100_0000_0000_0000,
+    match CommandBlock::from_bytes(bytes).answer {
+        Ok(block) => number_of(block),
+        Err(error) => (error.number() as u64) * 0x100_0000_0000_0000,
     }
 }

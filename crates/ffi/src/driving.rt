@@ -1,71 +1,54 @@
 // An upload driven to its end over one lent output, with a budget of calls.
-ghost use Rattle.std.specs.Prelude.{◌≡◌, min};
+ghost use Rattle.std.specs.Prelude.{◌≡◌};
 ghost use Rattle.maskrom.specs.Answers.{step_told, part_told};
 ghost use Rattle.maskrom.specs.PartWise.{close_step};
 ghost use Rattle.promise.specs.Run.{runs};
 ghost use Rattle.ffi.specs.Drive.{DriveMeets, step_drive, step_of, most_closing, handing, part_turn};
 ghost use Rattle.ffi.specs.Code.{pace_of, part_pace, HandsOver};
 
-use maskrom::{MaskRomOperation, PartStep, UploadStep, WholeUpload};
+use maskrom::{MaskRomOperation, PartError, PartStep, UploadError, UploadStep, WholeUpload};
+use rule_number::RuleNumber;
+use std::ops::ControlFlow;
 
-// Whether one more step follows, or the number that the upload ends with.
-#[derive(Clone, Copy)]
-pub(crate) enum Pace {
-    Goes,
-    Ends(u8),
-}
-
-// How many bytes a part took, or the number of its refusal.
-#[derive(Clone, Copy)]
-pub(crate) enum PartPace {
-    Took(usize),
-    Refused(u8),
-}
-
+// 0, or the number that C is told of a part's refusal.
 #[derive(Clone, Copy)]
 pub(crate) struct HandedOver {
     pub number: u8,
     pub operation: MaskRomOperation,
 }
 
-fn pace_of(step: UploadStep) -> Pace
+// Whether one more step follows, or the number that the upload ends with.
+#[tactic(auto, using(crate::proofs::Stepping::last_pace), unfolding(maskrom::specs::Answers::step_told, crate::specs::Code::pace_of))]
+fn pace_of(step: Result<UploadStep, UploadError>) -> ControlFlow<u8>
     ensures { result ≡ pace_of (step_told step) }
 {
     match step {
-        UploadStep::WriteControl(_) => Pace::Goes,
-        _ => Pace::Ends(step.number()),
+        Ok(UploadStep::WriteControl(_)) => ControlFlow::Continue(()),
+        Ok(UploadStep::Finished) => ControlFlow::Break(0),
+        Err(error) => ControlFlow::Break(error.number()),
     }
 }
 
-fn part_pace(step: PartStep) -> PartPace
+// How many bytes a part took, or the number of its refusal.
+#[tactic(auto, using(crate::proofs::Handing::refused_pace), unfolding(maskrom::specs::Answers::part_told, crate::specs::Code::part_pace))]
+fn part_pace(step: Result<PartStep, PartError>) -> Result<usize, u8>
     ensures { result ≡ part_pace (part_told step) }
 {
     match step {
-        PartStep::Taken(n) => PartPace::Took(n),
-        PartStep::WriteControl(n, _) => PartPace::Took(n),
-        _ => PartPace::Refused(step.number()),
+        Ok(PartStep::Taken(n)) => Ok(n),
+        Ok(PartStep::WriteControl(n, _)) => Ok(n),
+        Err(error) => Err(error.number()),
     }
 }
 
-fn least(a: usize, b: usize) -> usize
-    ensures { result ≡ min a b }
-{
-    if a < b { a } else { b }
-}
-
 // Step after step, until the finish, a refusal or the end of the budget.
-pub(crate) fn whole_on(upload: WholeUpload, image: &[u8], out: &mut [u8], budget: u32) -> u8
+pub(crate) fn whole_on(mut upload: WholeUpload, image: &[u8], out: &mut [u8], budget: u32) -> u8
     ensures { DriveMeets result out.new (step_drive (step_of image.now) budget upload out.old) }
 {
-    let mut now_upload = upload;
-    let mut used: u32 = 0;
-    while used < budget {
-        let stepped = now_upload.step(image, out);
-        now_upload = stepped.next;
-        used += 1;
-        let step = stepped.step;
-        let pace = pace_of(step);
-        if let Pace::Ends(number) = pace {
+    for _ in 0..budget {
+        let stepped = upload.step(image, out);
+        upload = stepped.next;
+        if let ControlFlow::Break(number) = pace_of(stepped.step) {
             return number;
         }
     }
@@ -75,18 +58,13 @@ pub(crate) fn whole_on(upload: WholeUpload, image: &[u8], out: &mut [u8], budget
 const MOST_CLOSING: u32 = 3;
 
 // The same for the closing steps of an image that was handed over.
-pub(crate) fn close_on(operation: MaskRomOperation, out: &mut [u8]) -> u8
+pub(crate) fn close_on(mut operation: MaskRomOperation, out: &mut [u8]) -> u8
     ensures { DriveMeets result out.new (step_drive close_step most_closing operation out.old) }
 {
-    let mut now_operation = operation;
-    let mut used: u32 = 0;
-    while used < MOST_CLOSING {
-        let stepped = now_operation.close(out);
-        now_operation = stepped.next;
-        used += 1;
-        let step = stepped.step;
-        let pace = pace_of(step);
-        if let Pace::Ends(number) = pace {
+    for _ in 0..MOST_CLOSING {
+        let stepped = operation.close(out);
+        operation = stepped.next;
+        if let ControlFlow::Break(number) = pace_of(stepped.step) {
             return number;
         }
     }
@@ -95,7 +73,7 @@ pub(crate) fn close_on(operation: MaskRomOperation, out: &mut [u8]) -> u8
 
 // Part after part, what was not taken again with the next, until nothing is left.
 pub(crate) fn hand_over(
-    operation: MaskRomOperation,
+    mut operation: MaskRomOperation,
     size: usize,
     image: &[u8],
     out: &mut [u8],
@@ -103,34 +81,24 @@ pub(crate) fn hand_over(
 ) -> HandedOver
     ensures { HandsOver result out.new (runs (part_turn size) budget (handing operation image.now out.old)) }
 {
-    let mut now_operation = operation;
     let mut from = 0;
-    let mut used: u64 = 0;
-    let length = image.len();
-    let number = loop {
-        if used == budget {
-            break 28;
+    for _ in 0..budget {
+        if from == image.len() {
+            return HandedOver {
+                number: 0,
+                operation,
+            };
         }
-        used += 1;
-        if from == length {
-            break 0;
+        let end = from + size.min(image.len() - from);
+        let stepped = operation.part(&image[from..end], out);
+        operation = stepped.next;
+        match part_pace(stepped.step) {
+            Ok(n) => from += n,
+            Err(number) => return HandedOver { number, operation },
         }
-        let end = from + least(size, length - from);
-        let stepped = now_operation.part(&image[from..end], out);
-        now_operation = stepped.next;
-        let step = stepped.step;
-        let pace = part_pace(step);
-        match pace {
-            PartPace::Took(n) => {
-                from += n;
-            }
-            PartPace::Refused(number) => {
-                break number;
-            }
-        }
-    };
+    }
     HandedOver {
-        number,
-        operation: now_operation,
+        number: 28,
+        operation,
     }
 }

@@ -7,11 +7,12 @@ ghost use Rattle.run_turn.specs.Turn.{lent_to};
 ghost use Rattle.deck.specs.Verdict.{verdict_told};
 ghost use Rattle.ffi.specs.Sectors.{SectorsMeet, counts_of, counts_after, device, run_at, read_sectors, write_sectors};
 
-use deck::verdict::Verdict;
+use deck::verdict::RefusalNumber;
 use mock::config::MockDeviceConfig;
 use mock::device::MockState;
 use operation::steps::UsbOperation;
 use operation_finish::{SectorTransfer, UsbReply};
+use rule_number::RuleNumber;
 
 // The same for every operation.
 const TAG: u32 = 1;
@@ -20,9 +21,7 @@ const TAG: u32 = 1;
 fn fresh_device() -> MockState
     ensures { result ≡ device }
 {
-    let none = [0u8; 0];
-    let made = MockState::new(MockDeviceConfig::default(), &none, &none);
-    made.state
+    MockState::new(MockDeviceConfig::default(), &[], &[]).state
 }
 
 // How many bytes were moved, then how many were asked for: of a whole transfer the same number twice.
@@ -46,10 +45,10 @@ fn counts_in(reply: UsbReply, before: [u32; 2]) -> [u32; 2]
 }
 
 // A refusal leaves the counts as they are.
-fn counts_after(verdict: Verdict, before: [u32; 2]) -> [u32; 2]
+fn counts_after(verdict: Result<UsbReply, RefusalNumber>, before: [u32; 2]) -> [u32; 2]
     ensures { (b : Beside) → result ≡ counts_after (verdict_told verdict b) before }
 {
-    let Verdict::Done(reply) = verdict else {
+    let Ok(reply) = verdict else {
         return before;
     };
     counts_in(reply, before)
@@ -59,10 +58,8 @@ fn counts_after(verdict: Verdict, before: [u32; 2]) -> [u32; 2]
 fn read_on(operation: UsbOperation, flash: &mut [u8], data: &mut [u8], counts: &mut [u32; 2]) -> u8
     ensures { SectorsMeet result flash.new «data».new counts.new (run_at operation flash.old «data».old counts.old) }
 {
-    let none = [0u8; 0];
-    let ran = run_operation::run_whole(operation, fresh_device(), flash, &none, data);
-    let dealt = deck::verdict::operated(ran);
-    let told = dealt.verdict;
+    let ran = run_operation::run_whole(operation, fresh_device(), flash, &[], data);
+    let told = deck::verdict::operated(ran).verdict;
     *counts = counts_after(told, *counts);
     told.number()
 }
@@ -71,10 +68,8 @@ fn read_on(operation: UsbOperation, flash: &mut [u8], data: &mut [u8], counts: &
 fn write_on(operation: UsbOperation, flash: &mut [u8], data: &[u8], counts: &mut [u32; 2]) -> u8
     ensures { SectorsMeet result flash.new (lent_to operation.kind «data».now []) counts.new (run_at operation flash.old (lent_to operation.kind «data».now []) counts.old) }
 {
-    let none = [0u8; 0];
-    let ran = run_operation::run_whole_write(operation, fresh_device(), flash, &none, data);
-    let dealt = deck::verdict::operated(ran);
-    let told = dealt.verdict;
+    let ran = run_operation::run_whole_write(operation, fresh_device(), flash, &[], data);
+    let told = deck::verdict::operated(ran).verdict;
     *counts = counts_after(told, *counts);
     told.number()
 }
@@ -85,10 +80,8 @@ pub fn read_sectors(first: u32, flash: &mut [u8], data: &mut [u8], counts: &mut 
     ensures { SectorsMeet result flash.new «data».new counts.new (read_sectors first flash.old «data».old counts.old) }
 {
     let start = operation::starts::read_lba(TAG, first, data.len());
-    let sectors = start.answer;
-    let refusal = sectors.number();
-    if refusal != 0 {
-        return refusal;
+    if let Err(refusal) = start.answer {
+        return refusal.number();
     }
     read_on(start.operation, flash, data, counts)
 }
@@ -99,10 +92,8 @@ pub fn write_sectors(first: u32, flash: &mut [u8], data: &[u8], counts: &mut [u3
     ensures { SectorsMeet result flash.new «data».now counts.new (write_sectors first flash.old «data».now counts.old) }
 {
     let start = operation::starts::write_lba(TAG, first, data.len());
-    let sectors = start.answer;
-    let refusal = sectors.number();
-    if refusal != 0 {
-        return refusal;
+    if let Err(refusal) = start.answer {
+        return refusal.number();
     }
     write_on(start.operation, flash, data, counts)
 }

@@ -2,17 +2,17 @@
 
 ghost use Rattle.ffi.specs.Drive.{DriveMeets, whole_drive, part_drive};
 
-use maskrom::{MaskRomOperation, UploadStart, write_area};
+use maskrom::{MaskRomOperation, write_area};
+use rule_number::RuleNumber;
 
 // A whole upload to its finish, each transfer at the front of `out`: 28 past `budget` steps.
 pub fn whole(area: u16, image: &[u8], out: &mut [u8], budget: u32) -> u8
     ensures { DriveMeets result out.new (whole_drive area image.now out.old budget) }
 {
     let started = write_area(area, image);
-    let start = started.start;
-    let UploadStart::Started = start else {
-        return start.number();
-    };
+    if let Err(refusal) = started.start {
+        return refusal.number();
+    }
     crate::driving::whole_on(started.upload, image, out, budget)
 }
 

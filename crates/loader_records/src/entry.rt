@@ -3,14 +3,13 @@ ghost use Rattle.std.specs.Prelude.{◌≡◌};
 ghost use Rattle.loader_records.specs.Records.{name_of, entry_of, no_entry, read_entry};
 ghost use Rattle.loader_records.specs.Refusals.{no_tag, ReadMeets};
 
-use crate::answer::{RkBootAnswer, RkBootError};
-use lent_bytes;
+use crate::answer::RkBootError;
 use protocol_bytes::order::{u16_from_le_bytes, u32_from_le_bytes};
 
 // Total size of an entry.
 pub const RK_BOOT_ENTRY_BYTES: usize = 57;
 
-#[derive(Clone, Copy)]
+#[derive(Clone, Copy, Debug, PartialEq, Eq)]
 pub struct RkBootEntry {
     // of this entry
     pub size: u8,
@@ -24,26 +23,25 @@ pub struct RkBootEntry {
     pub data_delay: u32,
 }
 
-#[derive(Clone, Copy)]
+// The record stands beside the answer, zeros where it is refused.
+#[derive(Clone, Copy, Debug, PartialEq, Eq)]
 pub struct RkBootEntryRead {
-    pub answer: RkBootAnswer,
+    pub answer: Result<(), RkBootError>,
     pub entry: RkBootEntry,
 }
 
-fn name_of(b: [u8; 57]) -> [u16; 20]
-    ensures { result ≡ name_of b }
+fn name_of(b: &[u8; 57]) -> [u16; 20]
+    ensures { result ≡ name_of b.now }
 {
     let mut name = [0; 20];
-    let mut i = 0;
-    while i < 20 {
+    for i in 0..20 {
         name[i] = u16_from_le_bytes([b[5 + 2 * i], b[6 + 2 * i]]);
-        i += 1;
     }
     name
 }
 
-fn entry_of(b: [u8; 57]) -> RkBootEntry
-    ensures { result ≡ entry_of b }
+fn entry_of(b: &[u8; 57]) -> RkBootEntry
+    ensures { result ≡ entry_of b.now }
 {
     RkBootEntry {
         size: b[0],
@@ -73,17 +71,14 @@ impl RkBootEntry {
     pub fn from_bytes(bytes: &[u8]) -> RkBootEntryRead
         ensures { ReadMeets result.answer result.entry no_tag no_entry (read_entry bytes.now) }
     {
-        let n = bytes.len();
-        if n < RK_BOOT_ENTRY_BYTES {
+        let Some(b) = bytes.first_chunk::<RK_BOOT_ENTRY_BYTES>() else {
             return RkBootEntryRead {
-                answer: RkBootAnswer::Refused(RkBootError::TooShort(n)),
+                answer: Err(RkBootError::TooShort(bytes.len())),
                 entry: RkBootEntry::none(),
             };
-        }
-        let mut b = [0; 57];
-        lent_bytes::copy(&bytes[..RK_BOOT_ENTRY_BYTES], &mut b);
+        };
         RkBootEntryRead {
-            answer: RkBootAnswer::Read,
+            answer: Ok(()),
             entry: entry_of(b),
         }
     }

@@ -4,18 +4,14 @@ ghost use Rattle.loader_records.specs.Records.{header_of, no_header, read_header
 ghost use Rattle.loader_records.specs.Refusals.{ReadMeets};
 ghost use Rattle.loader_records.specs.Code.{unread};
 
-use crate::answer::{RkBootAnswer, RkBootError};
+use crate::answer::RkBootError;
 use crate::list::{RkBootHeaderEntry, list_of};
 use crate::time::{RkTime, time_of};
-use lent_bytes;
 use protocol_bytes::order::{u16_from_le_bytes, u32_from_le_bytes};
 use protocol_bytes::signature::starts_with;
 
 // Total size of a header.
 pub const RK_BOOT_HEADER_BYTES: usize = 102;
-
-// Its bytes that are looked at: those behind them may be anything.
-const READ_BYTES: usize = 45;
 
 // BOOT
 const BOOT: [u8; 4] = [0x42, 0x4F, 0x4F, 0x54];
@@ -23,7 +19,7 @@ const BOOT: [u8; 4] = [0x42, 0x4F, 0x4F, 0x54];
 // LDR and a space
 const LDR: [u8; 4] = [0x4C, 0x44, 0x52, 0x20];
 
-#[derive(Clone, Copy)]
+#[derive(Clone, Copy, Debug, PartialEq, Eq)]
 pub struct RkBootHeader {
     pub tag: [u8; 4],
     pub size: u16,
@@ -38,27 +34,29 @@ pub struct RkBootHeader {
     pub rc4_flag: u8,
 }
 
-#[derive(Clone, Copy)]
+// The record stands beside the answer, zeros where it is refused.
+#[derive(Clone, Copy, Debug, PartialEq, Eq)]
 pub struct RkBootHeaderRead {
-    pub answer: RkBootAnswer,
+    pub answer: Result<(), RkBootError>,
     pub header: RkBootHeader,
     // the four bytes of an unknown tag, zeros otherwise
     pub unknown_tag: [u8; 4],
 }
 
-fn header_of(b: [u8; 45]) -> RkBootHeader
-    ensures { result ≡ header_of b }
+// Its bytes that are looked at are the first 45: those behind them may be anything.
+fn header_of(b: &[u8; 102]) -> RkBootHeader
+    ensures { result ≡ header_of b.now }
 {
     RkBootHeader {
         tag: [b[0], b[1], b[2], b[3]],
         size: u16_from_le_bytes([b[4], b[5]]),
         version: u32_from_le_bytes([b[6], b[7], b[8], b[9]]),
         merge_version: u32_from_le_bytes([b[10], b[11], b[12], b[13]]),
-        release: time_of([b[14], b[15], b[16], b[17], b[18], b[19], b[20]]),
+        release: time_of(&[b[14], b[15], b[16], b[17], b[18], b[19], b[20]]),
         supported_chip: [b[24], b[23], b[22], b[21]],
-        entry_471: list_of([b[25], b[26], b[27], b[28], b[29], b[30]]),
-        entry_472: list_of([b[31], b[32], b[33], b[34], b[35], b[36]]),
-        entry_loader: list_of([b[37], b[38], b[39], b[40], b[41], b[42]]),
+        entry_471: list_of(&[b[25], b[26], b[27], b[28], b[29], b[30]]),
+        entry_472: list_of(&[b[31], b[32], b[33], b[34], b[35], b[36]]),
+        entry_loader: list_of(&[b[37], b[38], b[39], b[40], b[41], b[42]]),
         sign_flag: b[43],
         rc4_flag: b[44],
     }
@@ -68,10 +66,7 @@ fn header_of(b: [u8; 45]) -> RkBootHeader
 fn has_tag(bytes: &[u8]) -> bool
     ensures { result ≡ is_tag (take 4 bytes.now) }
 {
-    if starts_with(bytes, BOOT) {
-        return true;
-    }
-    starts_with(bytes, LDR)
+    starts_with(bytes, BOOT) || starts_with(bytes, LDR)
 }
 
 // No header, and why.
@@ -79,8 +74,8 @@ fn unread(error: RkBootError, tag: [u8; 4]) -> RkBootHeaderRead
     ensures { result ≡ unread error tag }
 {
     RkBootHeaderRead {
-        answer: RkBootAnswer::Refused(error),
-        header: header_of([0; 45]),
+        answer: Err(error),
+        header: header_of(&[0; 102]),
         unknown_tag: tag,
     }
 }
@@ -89,20 +84,14 @@ impl RkBootHeader {
     pub fn from_bytes(bytes: &[u8]) -> RkBootHeaderRead
         ensures { ReadMeets result.answer result.header result.unknown_tag no_header (read_header bytes.now) }
     {
-        let n = bytes.len();
-        if n < RK_BOOT_HEADER_BYTES {
-            return unread(RkBootError::TooShort(n), [0; 4]);
-        }
+        let Some(b) = bytes.first_chunk::<RK_BOOT_HEADER_BYTES>() else {
+            return unread(RkBootError::TooShort(bytes.len()), [0; 4]);
+        };
         if !has_tag(bytes) {
-            return unread(
-                RkBootError::UnknownTag,
-                [bytes[0], bytes[1], bytes[2], bytes[3]],
-            );
+            return unread(RkBootError::UnknownTag, [b[0], b[1], b[2], b[3]]);
         }
-        let mut b = [0; 45];
-        lent_bytes::copy(&bytes[..READ_BYTES], &mut b);
         RkBootHeaderRead {
-            answer: RkBootAnswer::Read,
+            answer: Ok(()),
             header: header_of(b),
             unknown_tag: [0; 4],
         }

@@ -3,28 +3,28 @@ ghost use Rattle.std.specs.Prelude.{◌≡◌};
 ghost use Rattle.loader_records.specs.Records.{list_of, no_list, read_list};
 ghost use Rattle.loader_records.specs.Refusals.{no_tag, ReadMeets};
 
-use crate::answer::{RkBootAnswer, RkBootError};
-use lent_bytes;
+use crate::answer::RkBootError;
 use protocol_bytes::order::u32_from_le_bytes;
 
 // Total size of a list.
 pub const RK_BOOT_HEADER_ENTRY_BYTES: usize = 6;
 
-#[derive(Clone, Copy)]
+#[derive(Clone, Copy, Debug, PartialEq, Eq)]
 pub struct RkBootHeaderEntry {
     pub count: u8,
     pub offset: u32,
     pub size: u8,
 }
 
-#[derive(Clone, Copy)]
+// The record stands beside the answer, zeros where it is refused.
+#[derive(Clone, Copy, Debug, PartialEq, Eq)]
 pub struct RkBootHeaderEntryRead {
-    pub answer: RkBootAnswer,
+    pub answer: Result<(), RkBootError>,
     pub list: RkBootHeaderEntry,
 }
 
-pub(crate) fn list_of(b: [u8; 6]) -> RkBootHeaderEntry
-    ensures { result ≡ list_of b }
+pub(crate) fn list_of(b: &[u8; 6]) -> RkBootHeaderEntry
+    ensures { result ≡ list_of b.now }
 {
     RkBootHeaderEntry {
         count: b[0],
@@ -37,17 +37,14 @@ impl RkBootHeaderEntry {
     pub fn from_bytes(bytes: &[u8]) -> RkBootHeaderEntryRead
         ensures { ReadMeets result.answer result.list no_tag no_list (read_list bytes.now) }
     {
-        let mut b = [0; 6];
-        let n = bytes.len();
-        if n < RK_BOOT_HEADER_ENTRY_BYTES {
+        let Some(b) = bytes.first_chunk::<RK_BOOT_HEADER_ENTRY_BYTES>() else {
             return RkBootHeaderEntryRead {
-                answer: RkBootAnswer::Refused(RkBootError::TooShort(n)),
-                list: list_of(b),
+                answer: Err(RkBootError::TooShort(bytes.len())),
+                list: list_of(&[0; 6]),
             };
-        }
-        lent_bytes::copy(&bytes[..RK_BOOT_HEADER_ENTRY_BYTES], &mut b);
+        };
         RkBootHeaderEntryRead {
-            answer: RkBootAnswer::Read,
+            answer: Ok(()),
             list: list_of(b),
         }
     }

@@ -3,14 +3,13 @@ ghost use Rattle.std.specs.Prelude.{◌≡◌};
 ghost use Rattle.loader_records.specs.Records.{time_of, no_time, read_time};
 ghost use Rattle.loader_records.specs.Refusals.{no_tag, ReadMeets};
 
-use crate::answer::{RkBootAnswer, RkBootError};
-use lent_bytes;
+use crate::answer::RkBootError;
 use protocol_bytes::order::u16_from_le_bytes;
 
 // Total size of a time.
 pub const RK_TIME_BYTES: usize = 7;
 
-#[derive(Clone, Copy)]
+#[derive(Clone, Copy, Debug, PartialEq, Eq)]
 pub struct RkTime {
     pub year: u16,
     pub month: u8,
@@ -20,14 +19,15 @@ pub struct RkTime {
     pub second: u8,
 }
 
-#[derive(Clone, Copy)]
+// The record stands beside the answer, zeros where it is refused.
+#[derive(Clone, Copy, Debug, PartialEq, Eq)]
 pub struct RkTimeRead {
-    pub answer: RkBootAnswer,
+    pub answer: Result<(), RkBootError>,
     pub time: RkTime,
 }
 
-pub(crate) fn time_of(b: [u8; 7]) -> RkTime
-    ensures { result ≡ time_of b }
+pub(crate) fn time_of(b: &[u8; 7]) -> RkTime
+    ensures { result ≡ time_of b.now }
 {
     RkTime {
         year: u16_from_le_bytes([b[0], b[1]]),
@@ -43,17 +43,14 @@ impl RkTime {
     pub fn from_bytes(bytes: &[u8]) -> RkTimeRead
         ensures { ReadMeets result.answer result.time no_tag no_time (read_time bytes.now) }
     {
-        let mut b = [0; 7];
-        let n = bytes.len();
-        if n < RK_TIME_BYTES {
+        let Some(b) = bytes.first_chunk::<RK_TIME_BYTES>() else {
             return RkTimeRead {
-                answer: RkBootAnswer::Refused(RkBootError::TooShort(n)),
-                time: time_of(b),
+                answer: Err(RkBootError::TooShort(bytes.len())),
+                time: time_of(&[0; 7]),
             };
-        }
-        lent_bytes::copy(&bytes[..RK_TIME_BYTES], &mut b);
+        };
         RkTimeRead {
-            answer: RkBootAnswer::Read,
+            answer: Ok(()),
             time: time_of(b),
         }
     }

@@ -1,42 +1,33 @@
 // A header's lines.
-use crate::text::{print, print_four};
+use crate::text::Four;
 use loader_records::header::RkBootHeader;
 use loader_records::time::RkTime;
+use std::fmt::{self, Display, Formatter};
 use std::io::{Result, Write};
 
 // As a date where it is one, and else as the same numbers.
-fn print_time<W: Write>(to: &mut W, time: RkTime) -> Result<()> {
-    write!(to, "{:04}-{:02}-{:02} ", time.year, time.month, time.day)?;
-    write!(to, "{:02}:{:02}:{:02}", time.hour, time.minute, time.second)
-}
+#[derive(Clone, Copy)]
+struct Time(RkTime);
 
-fn print_four_line<W: Write>(to: &mut W, before: &[u8], b: [u8; 4]) -> Result<()> {
-    print(to, before)?;
-    print_four(to, b)?;
-    print(to, b"\n")
-}
-
-// What the file is, and who made it when.
-fn print_first<W: Write>(to: &mut W, header: RkBootHeader) -> Result<()> {
-    let tag = header.tag;
-    print_four_line(to, b"tag            ", tag)?;
-    writeln!(to, "version        0x{:08x}", header.version)?;
-    writeln!(to, "merge version  0x{:08x}", header.merge_version)?;
-    print(to, b"release time   ")?;
-    print_time(to, header.release)
-}
-
-fn print_rest<W: Write>(to: &mut W, header: RkBootHeader) -> Result<()> {
-    let chip = header.supported_chip;
-    print_four_line(to, b"\nchip           ", chip)?;
-    writeln!(to, "sign flag      0x{:02x}", header.sign_flag)?;
-    writeln!(to, "RC4 flag       0x{:02x}", header.rc4_flag)?;
-    write!(to, "entries        471: {}", header.entry_471.count)?;
-    write!(to, ", 472: {}", header.entry_472.count)?;
-    write!(to, ", loader: {}", header.entry_loader.count)
+impl Display for Time {
+    fn fmt<W: fmt::Write>(&self, f: &mut Formatter<W>) -> fmt::Result {
+        let t = self.0;
+        write!(f, "{:04}-{:02}-{:02} ", t.year, t.month, t.day)?;
+        write!(f, "{:02}:{:02}:{:02}", t.hour, t.minute, t.second)
+    }
 }
 
 pub(crate) fn print_header<W: Write>(to: &mut W, header: RkBootHeader) -> Result<()> {
-    print_first(to, header)?;
-    print_rest(to, header)
+    writeln!(to, "tag            {}", Four(header.tag))?;
+    writeln!(to, "version        0x{:08x}", header.version)?;
+    writeln!(to, "merge version  0x{:08x}", header.merge_version)?;
+    writeln!(to, "release time   {}", Time(header.release))?;
+    writeln!(to, "chip           {}", Four(header.supported_chip))?;
+    writeln!(to, "sign flag      0x{:02x}", header.sign_flag)?;
+    writeln!(to, "RC4 flag       0x{:02x}", header.rc4_flag)?;
+    writeln!(
+        to,
+        "entries        471: {}, 472: {}, loader: {}",
+        header.entry_471.count, header.entry_472.count, header.entry_loader.count
+    )
 }

@@ -1,46 +1,55 @@
-// Texts, letters and the names of lists.
-use protocol_bytes::order::u32_from_be_bytes;
-use std::io::{Result, Write};
+// Letters, four bytes, and the names of lists.
+use std::fmt::{Display, Formatter, Result, Write};
 
-pub(crate) fn print<W: Write>(to: &mut W, text: &[u8]) -> Result<()> {
-    to.write_all(text)
-}
+const BACKSLASH: u16 = 0x5C;
 
-// ASCII that can be seen, a space among it; the backslash starts what stands for all else.
-fn is_plain(unit: u16) -> bool {
-    unit >= 0x20 && unit <= 0x7E && unit != 0x5C
-}
+// A unit of UTF-16: as its letter where that is ASCII that can be seen, a space among it, and else as `\u` and four digits in hex. The backslash starts
+// what stands for all else.
+#[derive(Clone, Copy)]
+pub(crate) struct Unit(pub u16);
 
-// A unit of UTF-16 as its letter, or as `\u` and four digits in hex.
-pub(crate) fn print_unit<W: Write>(to: &mut W, unit: u16) -> Result<()> {
-    if is_plain(unit) {
-        let letter = [(unit % 128) as u8];
-        print(to, &letter)
-    } else {
-        write!(to, "\\u{unit:04x}")
+impl Display for Unit {
+    fn fmt<W: Write>(&self, f: &mut Formatter<W>) -> Result {
+        match self.0 {
+            unit @ 0x20..=0x7E if unit != BACKSLASH => f.write_char(unit as u8 as char),
+            unit => write!(f, "\\u{unit:04x}"),
+        }
     }
 }
 
-fn print_letters<W: Write>(to: &mut W, b: [u8; 4]) -> Result<()> {
-    print_unit(to, b[0] as u16)?;
-    print_unit(to, b[1] as u16)?;
-    print_unit(to, b[2] as u16)?;
-    print_unit(to, b[3] as u16)
-}
-
 // Four bytes as letters, and in hex.
-pub(crate) fn print_four<W: Write>(to: &mut W, b: [u8; 4]) -> Result<()> {
-    let number = u32_from_be_bytes(b);
-    print_letters(to, b)?;
-    write!(to, " ({number:08x})")
+#[derive(Clone, Copy)]
+pub(crate) struct Four(pub [u8; 4]);
+
+impl Display for Four {
+    fn fmt<W: Write>(&self, f: &mut Formatter<W>) -> Result {
+        for byte in self.0 {
+            write!(f, "{}", Unit(byte as u16))?;
+        }
+        write!(f, " ({:08x})", u32::from_be_bytes(self.0))
+    }
 }
 
-pub(crate) fn print_list<W: Write>(to: &mut W, list: u8) -> Result<()> {
-    if list == 0 {
-        print(to, b"471")
-    } else if list == 1 {
-        print(to, b"472")
-    } else {
-        print(to, b"loader")
+// The units of a name up to the first 0.
+#[derive(Clone, Copy)]
+pub(crate) struct Name(pub [u16; 20]);
+
+impl Display for Name {
+    fn fmt<W: Write>(&self, f: &mut Formatter<W>) -> Result {
+        for unit in self.0 {
+            if unit == 0 {
+                break;
+            }
+            write!(f, "{}", Unit(unit))?;
+        }
+        Ok(())
+    }
+}
+
+pub(crate) fn list_name(list: u8) -> &'static str {
+    match list {
+        0 => "471",
+        1 => "472",
+        _ => "loader",
     }
 }

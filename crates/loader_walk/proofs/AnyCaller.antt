@@ -13,13 +13,15 @@ use Rattle.loader_records.specs.Records.{read_header}
 use Rattle.loader_records.specs.Refusals.{boot_error_number, boot_error_values, boot_error_told}
 use Rattle.loader_walk.specs.declared.walk.Walk.{Walk}
 use Rattle.loader_walk.specs.declared.walk.WalkStep.{WalkStep}
-use Rattle.loader_walk.specs.declared.walk.WalkAnswer.{WalkAnswer}
-use Rattle.loader_walk.specs.declared.walk.WalkAnswer.TheVariants as walk
 use Rattle.loader_walk.specs.Entries.{Found, rest_of, all, entries_of}
 use Rattle.loader_walk.specs.Walking.{Next, entry, no_more, next_of, first_of, walk_after, walk_told, WalkMeets, new_walk}
 use Rattle.loader_walk.specs.Calls.{Finds, Walked, next_in, Left, Refuses}
 use Rattle.loader_walk.proofs.Ahead.{takes}
 use Rattle.loader_walk.proofs.All.{all_given, all_given_lem, all_refused, all_from, given_lists_same, split}
+use Rattle.std.specs.Prelude.{Option, Result}
+use Rattle.loader_walk.specs.declared.walk.EntryPlace.{EntryPlace}
+use Rattle.std.specs.declared.result.Result.TheVariants.{Ok, Err}
+use Rattle.std.specs.declared.option.Option.TheVariants.{None}
 
 abbrev kind_of : Told Next → ℕ
 kind_of (given (entry f)) = 1
@@ -48,7 +50,7 @@ pub found_told : (file : List ℕ) (w next : Walk) (f : Found) → Finds file w 
 unfolding walk_told
 found_told file w next f finds =
     sym finds.meets.tells
-    ∙ ap (λ (a : WalkAnswer). walk_told a finds.step.entry finds.step.unknown_tag) finds.answers
+    ∙ ap (λ (a : Result (Option EntryPlace) RkBootError). walk_told a finds.step.entry finds.step.unknown_tag) finds.answers
     ∙ ap (λ (e : RkBootEntry). given (entry (record { at = f.at; says = e }))) finds.says
 
 found_next : (file : List ℕ) (w next : Walk) (f : Found) → Finds file w f next → next ≡ record { list = f.at.list; entry = f.at.entry + 1 }
@@ -114,10 +116,10 @@ read_so file w x e = let first = first_given (read_header file) (λ h. first_of 
 
 module _ (file : List ℕ) (fs : List Found) (w : Walk) (walked : Walked file new_walk fs w) where
   -- who comes to the end was told every entry
-  pub walked_all : (r : WalkStep) → WalkMeets r w (next_of w file) → r.answer ≡ walk.End → entries_of file ≡ given fs
+  pub walked_all : (r : WalkStep) → WalkMeets r w (next_of w file) → r.answer ≡ Ok None → entries_of file ≡ given fs
   unfolding walk_told
   walked_all r met e =
-      let told : next_of w file ≡ given no_more = sym met.tells ∙ ap (λ (a : WalkAnswer). walk_told a r.entry r.unknown_tag) e in
+      let told : next_of w file ≡ given no_more = sym met.tells ∙ ap (λ (a : Result (Option EntryPlace) RkBootError). walk_told a r.entry r.unknown_tag) e in
       let read = read_so file w no_more told in
       all_told file read.0 read.1 fs w walked told
 
@@ -129,12 +131,12 @@ module _ (file : List ℕ) (fs : List Found) (w : Walk) (walked : Walked file ne
       ∙ ap as_list (sym (ap (λ (t : Told RkBootHeader). and_then t (λ h. first_of (rest_of file h w.list w.entry))) is) ∙ e)
 
   -- who comes to a refusal came to the first
-  pub walked_refused : (r : WalkStep) (error : RkBootError) → WalkMeets r w (next_of w file) → r.answer ≡ walk.Refused error
+  pub walked_refused : (r : WalkStep) (error : RkBootError) → WalkMeets r w (next_of w file) → r.answer ≡ Err error
       → entries_of file ≡ boot_error_told error r.unknown_tag
   unfolding walk_told
   walked_refused r error met e =
       refused_in (read_header file) (boot_error_number error) (boot_error_values error r.unknown_tag) refl
-      (sym met.tells ∙ ap (λ (a : WalkAnswer). walk_told a r.entry r.unknown_tag) e)
+      (sym met.tells ∙ ap (λ (a : Result (Option EntryPlace) RkBootError). walk_told a r.entry r.unknown_tag) e)
 
   -- where the file has these entries, what was found are the first of them, and what comes next is the first of the others, or the end
   pub walked_on : (gs : List Found) → entries_of file ≡ given gs → Left file gs fs w

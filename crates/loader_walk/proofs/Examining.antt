@@ -13,16 +13,16 @@ use Rattle.loader_records.specs.Refusals.{value_in, tag_in}
 use Rattle.loader_walk.specs.declared.walk.Walk.{Walk}
 use Rattle.loader_walk.specs.declared.walk.EntryPlace.{EntryPlace}
 use Rattle.loader_walk.specs.declared.walk.WalkStep.{WalkStep}
-use Rattle.loader_walk.specs.declared.walk.WalkAnswer.{WalkAnswer}
-use Rattle.loader_walk.specs.declared.walk.WalkAnswer.TheVariants as walk
 use Rattle.loader_walk.specs.declared.whole.EntryCounts.{EntryCounts}
-use Rattle.loader_walk.specs.declared.whole.ExamineAnswer.TheVariants as whole
 use Rattle.loader_walk.specs.Entries.{Found, rest_of, all, entries_of}
 use Rattle.loader_walk.specs.Walking.{Next, entry, no_more, next_of, first_of, walk_after, walk_told, WalkMeets, new_walk, counts_of, examined, examine_told, ExamineMeets}
 use Rattle.loader_walk.specs.Code.{header_counts}
 use Rattle.loader_walk.proofs.Ahead.{takes}
 use Rattle.loader_walk.proofs.All.{all_given, given_more, all_given_lem, all_refused}
 use Rattle.loader_walk.proofs.Counts.{counts_right}
+use Rattle.std.specs.Prelude.{Option, Result}
+use Rattle.std.specs.declared.result.Result.TheVariants.{Ok, Err}
+use Rattle.std.specs.declared.option.Option.TheVariants.{Some, None}
 
 -- what a walk has found so far
 pub record SoFar (file : List ℕ) (h : RkBootHeader) (w : Walk) : Type 0 where
@@ -46,17 +46,17 @@ left_in file w = left_by file (read_header file) w
 
 module _ (file : List ℕ) (w : Walk) where
   -- a step that found an entry
-  told_entry : (r : WalkStep) (at : EntryPlace) → r.answer ≡ walk.Entry at → WalkMeets r w (next_of w file)
+  told_entry : (r : WalkStep) (at : EntryPlace) → r.answer ≡ Ok (Some at) → WalkMeets r w (next_of w file)
       → next_of w file ≡ given (entry (record { at = at; says = r.entry }))
   unfolding walk_told
-  told_entry r at e met = sym met.tells ∙ ap (λ (a : WalkAnswer). walk_told a r.entry r.unknown_tag) e
+  told_entry r at e met = sym met.tells ∙ ap (λ (a : Result (Option EntryPlace) RkBootError). walk_told a r.entry r.unknown_tag) e
 
-  then-walk : (r : WalkStep) (at : EntryPlace) → r.answer ≡ walk.Entry at → WalkMeets r w (next_of w file)
+  then-walk : (r : WalkStep) (at : EntryPlace) → r.answer ≡ Ok (Some at) → WalkMeets r w (next_of w file)
       → r.walk ≡ record { list = at.list; entry = at.entry + 1 }
   unfolding walk_after
   then-walk r at e met = met.next ∙ ap (walk_after w) (told_entry r at e met)
 
-  pub onward_next : (r : WalkStep) (at : EntryPlace) → r.answer ≡ walk.Entry at → WalkMeets r w (next_of w file) → Onward file w → Onward file r.walk
+  pub onward_next : (r : WalkStep) (at : EntryPlace) → r.answer ≡ Ok (Some at) → WalkMeets r w (next_of w file) → Onward file w → Onward file r.walk
   unfolding next_of and_then
   onward_next r at e met before h is =
       let f : Found = record { at = at; says = r.entry } in
@@ -81,7 +81,7 @@ module _ (file : List ℕ) (w : Walk) where
       omega arith
   left_by_lem (refused n vs) f e = let z : ◌≡◌ {A = ℕ} 0 1 = cc in absurd (omega arith)
 
-  pub left_less : (r : WalkStep) (at : EntryPlace) → r.answer ≡ walk.Entry at → WalkMeets r w (next_of w file) → left_in file r.walk < left_in file w
+  pub left_less : (r : WalkStep) (at : EntryPlace) → r.answer ≡ Ok (Some at) → WalkMeets r w (next_of w file) → left_in file r.walk < left_in file w
   unfolding next_of
   left_less r at e met =
       subst (λ (x : Walk). left_in file x < left_in file w) (sym (then-walk r at e met))
@@ -118,25 +118,25 @@ unfolding next_of examined entries_of
 outcome file w onward = outcome_by file w (read_header file) onward
 
 -- the last step's answer is the whole file's
-told_so : (r : WalkStep) (a : WalkAnswer) (told : Told Next) (w : Walk) → WalkMeets r w told → r.answer ≡ a → walk_told a r.entry r.unknown_tag ≡ told
-told_so r a told w met e = sym (ap (λ (x : WalkAnswer). walk_told x r.entry r.unknown_tag) e) ∙ met.tells
+told_so : (r : WalkStep) (a : Result (Option EntryPlace) RkBootError) (told : Told Next) (w : Walk) → WalkMeets r w told → r.answer ≡ a → walk_told a r.entry r.unknown_tag ≡ told
+told_so r a told w met e = sym (ap (λ (x : Result (Option EntryPlace) RkBootError). walk_told x r.entry r.unknown_tag) e) ∙ met.tells
 
 module _ (file : List ℕ) (w : Walk) (r : WalkStep) (onward : Onward file w) (met : WalkMeets r w (next_of w file)) where
-  outcome_so : (a : WalkAnswer) → r.answer ≡ a → Outcome (walk_told a r.entry r.unknown_tag) (header_counts (value_in no_header (read_header file))) (examined file)
+  outcome_so : (a : Result (Option EntryPlace) RkBootError) → r.answer ≡ a → Outcome (walk_told a r.entry r.unknown_tag) (header_counts (value_in no_header (read_header file))) (examined file)
   outcome_so a e =
       subst (λ (t : Told Next). Outcome t (header_counts (value_in no_header (read_header file))) (examined file)) (sym (told_so r a (next_of w file) w met e))
       (outcome file w onward)
 
-  tag_so : (a : WalkAnswer) → r.answer ≡ a → r.unknown_tag ≡ tag_in (walk_told a r.entry r.unknown_tag)
+  tag_so : (a : Result (Option EntryPlace) RkBootError) → r.answer ≡ a → r.unknown_tag ≡ tag_in (walk_told a r.entry r.unknown_tag)
   tag_so a e = met.tag ∙ ap tag_in (sym (told_so r a (next_of w file) w met e))
 
-  pub ends_whole : r.answer ≡ walk.End
-      → ExamineMeets (record { answer = whole.Whole (header_counts (value_in no_header (read_header file))); unknown_tag = r.unknown_tag }) (examined file)
+  pub ends_whole : r.answer ≡ Ok None
+      → ExamineMeets (record { answer = Ok (header_counts (value_in no_header (read_header file))); unknown_tag = r.unknown_tag }) (examined file)
   unfolding walk_told examine_told signature_in
-  ends_whole e = let out = outcome_so walk.End e in record { tells = sym out; tag = tag_so walk.End e ∙ sym (ap tag_in out) }
+  ends_whole e = let out = outcome_so (Ok None) e in record { tells = sym out; tag = tag_so (Ok None) e ∙ sym (ap tag_in out) }
 
-  pub ends_refused : (error : RkBootError) → r.answer ≡ walk.Refused error
-      → ExamineMeets (record { answer = whole.Refused error; unknown_tag = r.unknown_tag }) (examined file)
+  pub ends_refused : (error : RkBootError) → r.answer ≡ Err error
+      → ExamineMeets (record { answer = Err error; unknown_tag = r.unknown_tag }) (examined file)
   unfolding walk_told examine_told signature_in
   ends_refused error e =
-      let out = outcome_so (walk.Refused error) e in record { tells = sym out; tag = tag_so (walk.Refused error) e ∙ sym (ap tag_in out) }
+      let out = outcome_so (Err error) e in record { tells = sym out; tag = tag_so (Err error) e ∙ sym (ap tag_in out) }

@@ -5,15 +5,16 @@ use Rattle.loader_records.specs.declared.header.RkBootHeader.{RkBootHeader}
 use Rattle.loader_records.specs.Records.{entry_length, read_header}
 use Rattle.loader_walk.specs.declared.walk.Walk.{Walk}
 use Rattle.loader_walk.specs.declared.walk.WalkStep.{WalkStep}
-use Rattle.loader_walk.specs.declared.walk.WalkAnswer.TheVariants as walk
 use Rattle.loader_walk.specs.Entries.{Found, found, list_at, start_of, entry_at}
 use Rattle.loader_walk.specs.Walking.{Next, entry, no_more, next_of, WalkMeets}
+use Rattle.std.specs.declared.result.Result.TheVariants.{Ok}
+use Rattle.std.specs.declared.option.Option.TheVariants.{Some}
 
 -- a step from walk w that found this entry and handed back this record; it is anything that its contract allows
 pub record Finds (file : List ℕ) (w : Walk) (f : Found) (next : Walk) : Type 0 where
   pub step : WalkStep
   pub meets : WalkMeets step w (next_of w file)
-  pub answers : step.answer ≡ walk.Entry f.at
+  pub answers : step.answer ≡ Ok (Some f.at)
   pub says : step.entry ≡ f.says
   pub goes : step.walk ≡ next
 

@@ -1,19 +1,19 @@
 -- A walk over a file's entries, and its examination.
-use Rattle.std.specs.Prelude.{ℕ, ◌+◌, ◌≡◌, List, [], ◌∷◌, eqb}
+use Rattle.std.specs.Prelude.{ℕ, ◌+◌, ◌≡◌, List, [], ◌∷◌, eqb, Option, Result}
 use Rattle.promise.specs.Told.{Told, given, refused, number, and_then}
 use Rattle.promise.specs.Rules.{pick}
 use Rattle.loader_records.specs.declared.entry.RkBootEntry.{RkBootEntry}
 use Rattle.loader_records.specs.Records.{read_header, no_entry}
 use Rattle.loader_records.specs.Refusals.{boot_error_told, no_tag, tag_in}
 use Rattle.loader_walk.specs.declared.walk.Walk.{Walk}
-use Rattle.loader_walk.specs.declared.walk.WalkAnswer.{WalkAnswer}
-use Rattle.loader_walk.specs.declared.walk.WalkAnswer.TheVariants as walk
 use Rattle.loader_walk.specs.declared.walk.WalkStep.{WalkStep}
 use Rattle.loader_walk.specs.declared.whole.EntryCounts.{EntryCounts}
-use Rattle.loader_walk.specs.declared.whole.ExamineAnswer.{ExamineAnswer}
-use Rattle.loader_walk.specs.declared.whole.ExamineAnswer.TheVariants as whole
 use Rattle.loader_walk.specs.declared.whole.Examined.{Examined}
 use Rattle.loader_walk.specs.Entries.{Found, rest_of, entries_of}
+use Rattle.loader_walk.specs.declared.walk.EntryPlace.{EntryPlace}
+use Rattle.loader_records.specs.declared.answer.RkBootError.{RkBootError}
+use Rattle.std.specs.declared.result.Result.TheVariants.{Ok, Err}
+use Rattle.std.specs.declared.option.Option.TheVariants.{Some, None}
 
 -- what a step finds: an entry, or that there is no more
 pub data Next : Type 0 where
@@ -40,13 +40,13 @@ walk_after w (given no_more) = w
 walk_after w (refused n values) = w
 
 -- an answer's number and values, with the entry and the tag beside it
-unfoldable pub walk_told : WalkAnswer → RkBootEntry → List ℕ → Told Next
-walk_told (walk.Entry at) says tag = given (entry (record { at = at; says = says }))
-walk_told walk.End says tag = given no_more
-walk_told (walk.Refused error) says tag = boot_error_told error tag
+unfoldable pub walk_told : Result (Option EntryPlace) RkBootError → RkBootEntry → List ℕ → Told Next
+walk_told (Ok (Some at)) says tag = given (entry (record { at = at; says = says }))
+walk_told (Ok None) says tag = given no_more
+walk_told (Err error) says tag = boot_error_told error tag
 
 -- the number of what it tells, whatever stands beside it
-abbrev pub walk_number : WalkAnswer → ℕ
+abbrev pub walk_number : Result (Option EntryPlace) RkBootError → ℕ
 walk_number a = number (walk_told a no_entry no_tag)
 
 -- the entry that is told, zeros where none is
@@ -74,11 +74,11 @@ counts_of fs = record { entry_471 = count_in 0 fs; entry_472 = count_in 1 fs; en
 unfoldable pub examined : List ℕ → Told EntryCounts
 examined file = and_then (entries_of file) (λ fs. given (counts_of fs))
 
-unfoldable pub examine_told : ExamineAnswer → List ℕ → Told EntryCounts
-examine_told (whole.Whole counts) tag = given counts
-examine_told (whole.Refused error) tag = boot_error_told error tag
+unfoldable pub examine_told : Result EntryCounts RkBootError → List ℕ → Told EntryCounts
+examine_told (Ok counts) tag = given counts
+examine_told (Err error) tag = boot_error_told error tag
 
-abbrev pub examine_number : ExamineAnswer → ℕ
+abbrev pub examine_number : Result EntryCounts RkBootError → ℕ
 examine_number a = number (examine_told a no_tag)
 
 pub record ExamineMeets (r : Examined) (told : Told EntryCounts) : Type 0 where

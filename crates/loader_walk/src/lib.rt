@@ -12,10 +12,7 @@ ghost use Rattle.loader_walk.specs.Entries.{data_of};
 pub fn data_of(file: &[u8], place: usize, length: usize) -> &[u8]
     ensures { result.now ≡ data_of file.now place length }
 {
-    if file.len() < place {
-        return &file[..0];
-    }
-    if file.len() - place < length {
+    if file.len() < place || file.len() - place < length {
         return &file[..0];
     }
     &file[place..place + length]

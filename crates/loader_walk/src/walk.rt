@@ -1,12 +1,10 @@
 // A walk over the entries of a lent loader file: list by list, entry by entry.
-ghost use Rattle.std.specs.Prelude.{◌≡◌, [], ◌∷◌, ◌<◌};
-ghost use Rattle.loader_records.specs.Refusals.{no_tag};
-ghost use Rattle.loader_walk.specs.declared.walk.WalkAnswer.TheVariants as answers;
+ghost use Rattle.std.specs.Prelude.{◌≡◌, ◌<◌};
 ghost use Rattle.loader_walk.specs.Entries.{list_at, start_of, lookup};
-ghost use Rattle.loader_walk.specs.Walking.{new_walk, next_of, first_of, WalkMeets, walk_number};
-ghost use Rattle.loader_walk.specs.Code.{stopped, found_step, Seeks};
+ghost use Rattle.loader_walk.specs.Walking.{new_walk, next_of, WalkMeets};
+ghost use Rattle.loader_walk.specs.Code.{stopped, found_step, looked_up_told, SeeksFor};
 
-use loader_records::answer::{RkBootAnswer, RkBootError};
+use loader_records::answer::RkBootError;
 use loader_records::entry::{RK_BOOT_ENTRY_BYTES, RkBootEntry};
 use loader_records::header::RkBootHeader;
 use loader_records::list::RkBootHeaderEntry;
@@ -16,14 +14,15 @@ const LISTS: u8 = 3;
 
 // Where a walk stands: a list (0 for 471, 1 for 472, 2 for loader), and the entry of it that is looked for next. An entry past its list's last is the
 // next list's first, and a list past the third is the end.
-#[derive(Clone, Copy)]
+// The list is a number and no enum, since a walk is a record of any values (docs/RULES.md).
+#[derive(Clone, Copy, Debug, PartialEq, Eq)]
 pub struct Walk {
     pub list: u8,
     pub entry: u16,
 }
 
 // An entry that was found: its list, its number there, and its data's place and length in the file.
-#[derive(Clone, Copy)]
+#[derive(Clone, Copy, Debug, PartialEq, Eq)]
 pub struct EntryPlace {
     pub list: u8,
     pub entry: u16,
@@ -31,29 +30,10 @@ pub struct EntryPlace {
     pub length: usize,
 }
 
-#[derive(Clone, Copy)]
-pub enum WalkAnswer {
-    Entry(EntryPlace),
-    End,
-    Refused(RkBootError),
-}
-
-impl WalkAnswer {
-    // Its number in the rules, 0 for an entry and for the end.
-    pub fn number(self) -> u8
-        ensures { result ≡ walk_number self }
-    {
-        match self {
-            WalkAnswer::Entry(_) => 0,
-            WalkAnswer::End => 0,
-            WalkAnswer::Refused(error) => error.number(),
-        }
-    }
-}
-
-#[derive(Clone, Copy)]
+#[derive(Clone, Copy, Debug, PartialEq, Eq)]
 pub struct WalkStep {
-    pub answer: WalkAnswer,
+    // the entry's place, none at the end
+    pub answer: Result<Option<EntryPlace>, RkBootError>,
     // the entry that was found, zeros otherwise
     pub entry: RkBootEntry,
     // the four bytes of an unknown tag, zeros otherwise
@@ -62,6 +42,7 @@ pub struct WalkStep {
 }
 
 // The list of this number, an empty one behind the third.
+#[tactic(auto, unfolding(crate::specs::Entries::list_at, loader_records::specs::Records::list_of, promise::specs::Bytes::from_low))]
 pub fn list_at(header: RkBootHeader, list: u8) -> RkBootHeaderEntry
     ensures { result ≡ list_at header list }
 {
@@ -78,21 +59,19 @@ pub fn list_at(header: RkBootHeader, list: u8) -> RkBootHeaderEntry
 }
 
 // Nothing found: the walk stays where it is.
-fn stopped(walk: Walk, answer: WalkAnswer, tag: [u8; 4]) -> WalkStep
-    ensures { result ≡ stopped walk answer tag }
+fn stopped(
+    walk: Walk,
+    answer: Result<Option<EntryPlace>, RkBootError>,
+    unknown_tag: [u8; 4],
+) -> WalkStep
+    ensures { result ≡ stopped walk answer unknown_tag }
 {
     WalkStep {
-        answer: answer,
+        answer,
         entry: RkBootEntry::none(),
-        unknown_tag: tag,
-        walk: walk,
+        unknown_tag,
+        walk,
     }
-}
-
-fn refused(walk: Walk, error: RkBootError) -> WalkStep
-    ensures { result ≡ stopped walk (answers.Refused error) no_tag }
-{
-    stopped(walk, WalkAnswer::Refused(error), [0; 4])
 }
 
 // Where an entry of a list starts: below 2^33.
@@ -109,12 +88,12 @@ fn found(at: Walk, entry: RkBootEntry) -> WalkStep
     ensures { result ≡ found_step at.list at.entry entry }
 {
     WalkStep {
-        answer: WalkAnswer::Entry(EntryPlace {
+        answer: Ok(Some(EntryPlace {
             list: at.list,
             entry: at.entry,
             place: entry.data_offset as usize,
             length: entry.data_size as usize,
-        }),
+        })),
         entry,
         unknown_tag: [0; 4],
         walk: Walk {
@@ -124,24 +103,23 @@ fn found(at: Walk, entry: RkBootEntry) -> WalkStep
     }
 }
 
-// The entry at a place of a list, for a walk that came to it.
-fn look_up(walk: Walk, file: &[u8], at: Walk, list: RkBootHeaderEntry) -> WalkStep
+// The entry at a place of a list.
+fn look_up(file: &[u8], at: Walk, list: RkBootHeaderEntry) -> Result<RkBootEntry, RkBootError>
     requires { at.entry < list.count }
-    ensures { WalkMeets result walk (first_of (lookup file.now at.list list at.entry ∷ [])) }
+    ensures { looked_up_told at.list at.entry result ≡ lookup file.now at.list list at.entry }
 {
     if (list.size as usize) < RK_BOOT_ENTRY_BYTES {
-        return refused(walk, RkBootError::SizeBelowEntry(at.list, at.entry));
+        return Err(RkBootError::SizeBelowEntry(at.list, at.entry));
     }
     let start = start_of(list, at.entry);
     if file.len() < start + RK_BOOT_ENTRY_BYTES {
-        return refused(walk, RkBootError::EntryPastEnd(at.list, at.entry));
+        return Err(RkBootError::EntryPastEnd(at.list, at.entry));
     }
-    let read = RkBootEntry::from_bytes(&file[start..]);
-    let entry = read.entry;
+    let entry = RkBootEntry::from_bytes(&file[start..]).entry;
     if file.len() < (entry.data_offset as usize) + (entry.data_size as usize) {
-        return refused(walk, RkBootError::DataPastEnd(at.list, at.entry));
+        return Err(RkBootError::DataPastEnd(at.list, at.entry));
     }
-    found(at, entry)
+    Ok(entry)
 }
 
 impl Walk {
@@ -152,22 +130,18 @@ impl Walk {
         Walk { list: 0, entry: 0 }
     }
 
-    // The first place at or behind this one that has an entry, or one past the third list.
-    fn seek(self, header: RkBootHeader) -> Walk
-        ensures { Seeks header self result }
+    // The first place at or behind this one that has an entry.
+    fn seek(self, header: RkBootHeader) -> Option<Walk>
+        ensures { SeeksFor header self result }
     {
-        let mut at = self;
-        while at.list < LISTS {
-            let list = list_at(header, at.list);
-            if at.entry < list.count as u16 {
-                return at;
+        let mut entry = self.entry;
+        for list in self.list..LISTS {
+            if entry < list_at(header, list).count as u16 {
+                return Some(Walk { list, entry });
             }
-            at = Walk {
-                list: at.list + 1,
-                entry: 0,
-            };
+            entry = 0;
         }
-        at
+        None
     }
 
     // The next entry, or the end, or why there is none.
@@ -175,16 +149,16 @@ impl Walk {
         ensures { WalkMeets result self (next_of self file.now) }
     {
         let read = RkBootHeader::from_bytes(file);
-        let answer = read.answer;
-        let tag = read.unknown_tag;
-        if let RkBootAnswer::Refused(error) = answer {
-            return stopped(self, WalkAnswer::Refused(error), tag);
+        if let Err(error) = read.answer {
+            return stopped(self, Err(error), read.unknown_tag);
         }
         let header = read.header;
-        let at = self.seek(header);
-        if at.list >= LISTS {
-            return stopped(self, WalkAnswer::End, [0; 4]);
+        let Some(at) = self.seek(header) else {
+            return stopped(self, Ok(None), [0; 4]);
+        };
+        match look_up(file, at, list_at(header, at.list)) {
+            Ok(entry) => found(at, entry),
+            Err(error) => stopped(self, Err(error), [0; 4]),
         }
-        look_up(self, file, at, list_at(header, at.list))
     }
 }

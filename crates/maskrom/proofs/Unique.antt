@@ -12,55 +12,60 @@ use Rattle.maskrom_transfer.proofs.Unique.{same}
 use Rattle.maskrom.proofs.Cases.{close_20}
 use Rattle.maskrom.specs.declared.MaskRomOperation.{MaskRomOperation}
 use Rattle.maskrom.specs.declared.WholeUpload.{WholeUpload}
-use Rattle.maskrom.specs.declared.PartStep.{PartStep}
 use Rattle.maskrom.specs.declared.PartStep.TheVariants as part
 use Rattle.maskrom.specs.declared.PartStepped.{PartStepped}
-use Rattle.maskrom.specs.declared.UploadStep.{UploadStep}
 use Rattle.maskrom.specs.declared.UploadStep.TheVariants as upload
 use Rattle.maskrom.specs.declared.CloseStepped.{CloseStepped}
 use Rattle.maskrom.specs.declared.WholeStepped.{WholeStepped}
-use Rattle.maskrom.specs.declared.UploadStart.{UploadStart}
-use Rattle.maskrom.specs.declared.UploadStart.TheVariants as start
 use Rattle.maskrom.specs.declared.WholeStart.{WholeStart}
 use Rattle.maskrom.specs.Answers.{closed_already, Handed, took, filled, Asks, writes, finish, part_told, step_told, start_told}
 use Rattle.maskrom.specs.PartWise.{part_step, close_step}
 use Rattle.maskrom.specs.Whole.{StartMeets, whole_step}
 use Rattle.maskrom.specs.Code.{parted, closed_with, stepped_with}
+use Rattle.std.specs.Prelude.{Result}
+use Rattle.maskrom.specs.declared.PartStep.{PartStep}
+use Rattle.maskrom.specs.declared.PartError.{PartError}
+use Rattle.std.specs.declared.result.Result.TheVariants.{Ok, Err}
+use Rattle.maskrom.specs.declared.PartError.TheVariants as part_error
+use Rattle.maskrom.specs.declared.UploadStep.{UploadStep}
+use Rattle.maskrom.specs.declared.UploadError.{UploadError}
+use Rattle.maskrom.specs.declared.UploadError.TheVariants as upload_error
+use Rattle.maskrom.specs.declared.ImageTooLong.{ImageTooLong}
 
 -- number and values say which answer it was
-part_of : Told Handed → PartStep
-part_of (given (took n)) = part.Taken n
-part_of (given (filled n c)) = part.WriteControl n c
-part_of (refused n vs) = pick (eqb n too_short) part.OutputTooShort (pick (eqb n closed_already) part.AlreadyClosed part.ImageTooLong)
+part_of : Told Handed → (Result PartStep PartError)
+part_of (given (took n)) = Ok (part.Taken n)
+part_of (given (filled n c)) = Ok (part.WriteControl n c)
+part_of (refused n vs) = pick (eqb n too_short) (Err part_error.OutputTooShort) (pick (eqb n closed_already) (Err part_error.AlreadyClosed) (Err part_error.ImageTooLong))
 
-part_back : (r : PartStep) → part_of (part_told r) ≡ r
+part_back : (r : Result PartStep PartError) → part_of (part_told r) ≡ r
 unfolding part_of part_told
-part_back (part.Taken n) = refl
-part_back (part.WriteControl n c) = refl
-part_back part.OutputTooShort = refl
-part_back part.AlreadyClosed = refl
-part_back part.ImageTooLong = refl
+part_back (Ok (part.Taken n)) = refl
+part_back (Ok (part.WriteControl n c)) = refl
+part_back (Err part_error.OutputTooShort) = refl
+part_back (Err part_error.AlreadyClosed) = refl
+part_back (Err part_error.ImageTooLong) = refl
 
-step_of : Told Asks → UploadStep
-step_of (given (writes c)) = upload.WriteControl c
-step_of (given finish) = upload.Finished
-step_of (refused n vs) = pick (eqb n too_short) upload.OutputTooShort upload.ImageDiffers
+step_of : Told Asks → (Result UploadStep UploadError)
+step_of (given (writes c)) = Ok (upload.WriteControl c)
+step_of (given finish) = Ok upload.Finished
+step_of (refused n vs) = pick (eqb n too_short) (Err upload_error.OutputTooShort) (Err upload_error.ImageDiffers)
 
-step_back : (r : UploadStep) → step_of (step_told r) ≡ r
+step_back : (r : Result UploadStep UploadError) → step_of (step_told r) ≡ r
 unfolding step_of step_told
-step_back (upload.WriteControl c) = refl
-step_back upload.Finished = refl
-step_back upload.OutputTooShort = refl
-step_back upload.ImageDiffers = refl
+step_back (Ok (upload.WriteControl c)) = refl
+step_back (Ok upload.Finished) = refl
+step_back (Err upload_error.OutputTooShort) = refl
+step_back (Err upload_error.ImageDiffers) = refl
 
-start_of : Told Unit → UploadStart
-start_of (given u) = start.Started
-start_of (refused n vs) = start.ImageTooLong
+start_of : Told Unit → (Result Unit ImageTooLong)
+start_of (given u) = Ok tt
+start_of (refused n vs) = Err (record {})
 
-start_back : (r : UploadStart) → start_of (start_told r) ≡ r
+start_back : (r : Result Unit ImageTooLong) → start_of (start_told r) ≡ r
 unfolding start_of start_told
-start_back start.Started = refl
-start_back start.ImageTooLong = refl
+start_back (Ok u) = refl
+start_back (Err e) = refl
 
 -- a left inverse makes two answers one
 one : {A B : Type 0} (tell : B → A) (of : A → B) → ((b : B) → of (tell b) ≡ b) → (x y : B) → tell x ≡ tell y → x ≡ y
@@ -98,5 +103,5 @@ step_one r r' u image old new new' p q =
 pub start_one : (r r' : WholeStart) (area : ℕ) (image : List ℕ)
     → StartMeets r area image → StartMeets r' area image → r ≡ r'
 start_one r r' area image p q =
-    ap₂ (λ (s : UploadStart) (u : WholeUpload). record { start = s; upload = u })
+    ap₂ (λ (s : Result Unit ImageTooLong) (u : WholeUpload). record { start = s; upload = u })
     (one start_told start_of start_back r.start r'.start (p.tells ∙ sym q.tells)) (p.next ∙ sym q.next)

@@ -21,12 +21,14 @@ use Rattle.maskrom.specs.declared.PartStepped.{PartStepped}
 use Rattle.maskrom.specs.declared.UploadStep.TheVariants as step
 use Rattle.maskrom.specs.declared.CloseStepped.{CloseStepped}
 use Rattle.maskrom.specs.declared.WholeStepped.{WholeStepped}
-use Rattle.maskrom.specs.declared.UploadStart.TheVariants as start
 use Rattle.maskrom.specs.declared.WholeStart.{WholeStart}
 use Rattle.maskrom.specs.Answers.{longest, too_long, Handed, Asks, writes, finish, part_told, step_told, start_told}
 use Rattle.maskrom.specs.PartWise.{fresh, with_block, closed, takes, part_step, asks, close_step}
 use Rattle.maskrom.specs.Whole.{fresh_whole, start_step, StartMeets, most, sends_on, whole_step}
 use Rattle.maskrom.proofs.Cases.{part_takes}
+use Rattle.std.specs.declared.result.Result.TheVariants.{Ok, Err}
+use Rattle.maskrom.specs.declared.PartError.TheVariants as part_error
+use Rattle.maskrom.specs.declared.UploadError.TheVariants as upload_error
 
 -- `new`: one record for every area
 pub area_dropped : (r : MaskRomOperation) → r ≡ fresh 0 → r ≡ fresh 1 → ⊥
@@ -127,32 +129,32 @@ unfolding whole_step sends_on and_then send_step or_refuse moves_at writing high
 step_sends_zeros r old new zeros meets =
     let differ : ◌≡◌ {A = ℕ} 0 0xFF = ap (λ (l : List ℕ). get_or l 0 0) (sym zeros ∙ ap (take 2) meets.leaves) in omega arith
 
--- `PartStep::number`: one number for every answer
-pub fixed_part_number : (n : ℕ) → n ≡ number (part_told (part.Taken 0)) → n ≡ number (part_told part.OutputTooShort) → ⊥
+-- `number` of what `part` gives: one number for every answer
+pub fixed_part_number : (n : ℕ) → n ≡ number (part_told (Ok (part.Taken 0))) → n ≡ number (part_told (Err part_error.OutputTooShort)) → ⊥
 unfolding number part_told
 fixed_part_number n took short = let differ : ◌≡◌ {A = ℕ} 0 20 = sym took ∙ short in omega arith
 
--- `PartStep::number`: closed already, told as an image that is too long
-pub closed_as_too_long : number (part_told part.AlreadyClosed) ≡ 25 → ⊥
+-- `number` of what `part` gives: closed already, told as an image that is too long
+pub closed_as_too_long : number (part_told (Err part_error.AlreadyClosed)) ≡ 25 → ⊥
 unfolding number part_told
 closed_as_too_long e = let differ : ◌≡◌ {A = ℕ} 26 25 = e in omega arith
 
--- `UploadStep::number`: one number for every answer
-pub fixed_step_number : (n : ℕ) → n ≡ number (step_told step.Finished) → n ≡ number (step_told step.ImageDiffers) → ⊥
+-- `number` of what `close` and `step` give: one number for every answer
+pub fixed_step_number : (n : ℕ) → n ≡ number (step_told (Ok step.Finished)) → n ≡ number (step_told (Err upload_error.ImageDiffers)) → ⊥
 unfolding number step_told
 fixed_step_number n done other = let differ : ◌≡◌ {A = ℕ} 0 27 = sym done ∙ other in omega arith
 
--- `UploadStep::number`: an output that is too short, told as data that differs
-pub short_as_differing : number (step_told step.OutputTooShort) ≡ 27 → ⊥
+-- `number` of what `close` and `step` give: an output that is too short, told as data that differs
+pub short_as_differing : number (step_told (Err upload_error.OutputTooShort)) ≡ 27 → ⊥
 unfolding number step_told
 short_as_differing e = let differ : ◌≡◌ {A = ℕ} 20 27 = e in omega arith
 
--- `UploadStart::number`: one number for every answer
-pub fixed_start_number : (n : ℕ) → n ≡ number (start_told start.Started) → n ≡ number (start_told start.ImageTooLong) → ⊥
+-- `number` of what `write_area` gives: one number for every answer
+pub fixed_start_number : (n : ℕ) → n ≡ number (start_told (Ok tt)) → n ≡ number (start_told (Err (record {}))) → ⊥
 unfolding number start_told
 fixed_start_number n begun long = let differ : ◌≡◌ {A = ℕ} 0 25 = sym begun ∙ long in omega arith
 
--- `UploadStart::number`: a start told as a refusal
-pub started_as_refused : number (start_told start.Started) ≡ 25 → ⊥
+-- `number` of what `write_area` gives: a start told as a refusal
+pub started_as_refused : number (start_told (Ok tt)) ≡ 25 → ⊥
 unfolding number start_told
 started_as_refused e = let differ : ◌≡◌ {A = ℕ} 0 25 = e in omega arith

@@ -2,13 +2,18 @@
 use Rattle.std.specs.Prelude.{ℕ, []}
 use Rattle.promise.specs.Told.{Told, given, refused}
 use Rattle.maskrom.specs.declared.Control.{Control}
-use Rattle.maskrom.specs.declared.PartStep.{PartStep}
 use Rattle.maskrom.specs.declared.PartStep.TheVariants as part
-use Rattle.maskrom.specs.declared.UploadStep.{UploadStep}
 use Rattle.maskrom.specs.declared.UploadStep.TheVariants as upload
-use Rattle.maskrom.specs.declared.UploadStart.{UploadStart}
-use Rattle.maskrom.specs.declared.UploadStart.TheVariants as start
 use Rattle.promise.specs.Rules.{differs, too_short}
+use Rattle.std.specs.Prelude.{Result}
+use Rattle.maskrom.specs.declared.PartStep.{PartStep}
+use Rattle.maskrom.specs.declared.PartError.{PartError}
+use Rattle.std.specs.declared.result.Result.TheVariants.{Ok, Err}
+use Rattle.maskrom.specs.declared.PartError.TheVariants as part_error
+use Rattle.maskrom.specs.declared.UploadStep.{UploadStep}
+use Rattle.maskrom.specs.declared.UploadError.{UploadError}
+use Rattle.maskrom.specs.declared.UploadError.TheVariants as upload_error
+use Rattle.maskrom.specs.declared.ImageTooLong.{ImageTooLong}
 
 -- the longest image
 abbrev pub longest : ℕ
@@ -35,19 +40,32 @@ pub data Asks : Type 0 where
   writes : Control → Asks
   finish : Asks
 
-unfoldable pub part_told : PartStep → Told Handed
-part_told (part.Taken n) = given (took n)
-part_told (part.WriteControl n c) = given (filled n c)
-part_told part.OutputTooShort = refused too_short []
-part_told part.AlreadyClosed = refused closed_already []
-part_told part.ImageTooLong = refused too_long []
+-- the number of each refusal
+abbrev pub part_error_number : PartError → ℕ
+part_error_number part_error.OutputTooShort = 20
+part_error_number part_error.AlreadyClosed = 26
+part_error_number part_error.ImageTooLong = 25
 
-unfoldable pub step_told : UploadStep → Told Asks
-step_told (upload.WriteControl c) = given (writes c)
-step_told upload.Finished = given finish
-step_told upload.OutputTooShort = refused too_short []
-step_told upload.ImageDiffers = refused differs []
+abbrev pub upload_error_number : UploadError → ℕ
+upload_error_number upload_error.OutputTooShort = 20
+upload_error_number upload_error.ImageDiffers = 27
 
-unfoldable pub start_told : UploadStart → Told Unit
-start_told start.Started = given tt
-start_told start.ImageTooLong = refused too_long []
+abbrev pub image_too_long_number : ImageTooLong → ℕ
+image_too_long_number refusal = 25
+
+unfoldable pub part_told : Result PartStep PartError → Told Handed
+part_told (Ok (part.Taken n)) = given (took n)
+part_told (Ok (part.WriteControl n c)) = given (filled n c)
+part_told (Err part_error.OutputTooShort) = refused too_short []
+part_told (Err part_error.AlreadyClosed) = refused closed_already []
+part_told (Err part_error.ImageTooLong) = refused too_long []
+
+unfoldable pub step_told : Result UploadStep UploadError → Told Asks
+step_told (Ok (upload.WriteControl c)) = given (writes c)
+step_told (Ok upload.Finished) = given finish
+step_told (Err upload_error.OutputTooShort) = refused too_short []
+step_told (Err upload_error.ImageDiffers) = refused differs []
+
+unfoldable pub start_told : Result Unit ImageTooLong → Told Unit
+start_told (Ok u) = given tt
+start_told (Err e) = refused too_long []

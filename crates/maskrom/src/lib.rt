@@ -5,19 +5,20 @@
 
 ghost use Rattle.std.specs.Prelude.{◌≡◌, ◌+◌, ◌≤◌, min, length};
 ghost use Rattle.crc.specs.Check.{crc_over};
-ghost use Rattle.promise.specs.Told.{given, number};
+ghost use Rattle.promise.specs.Told.{given};
 ghost use Rattle.promise.specs.Does.{Meets};
-ghost use Rattle.maskrom.specs.Answers.{control, part_told, step_told, start_told};
-ghost use Rattle.maskrom.specs.PartWise.{fresh, waiting, with_block, holding, asks, with_moved};
+ghost use Rattle.maskrom.specs.Answers.{control, part_told, step_told, start_told, part_error_number, upload_error_number, image_too_long_number};
+ghost use Rattle.maskrom.specs.PartWise.{fresh, waiting, holding, asks, with_moved};
 ghost use Rattle.maskrom.specs.Whole.{fresh_whole, StartMeets, most, sent_on, sends_on};
 ghost use Rattle.maskrom.specs.Calls.{PartMeets, CloseMeets, StepMeets};
 ghost use Rattle.maskrom.specs.Code.{parted, closed_with, stepped_with};
 
-use maskrom_transfer::{MaskRomSteps, Moved, Sent};
+use maskrom_transfer::{MaskRomSteps, Moved};
+use rule_number::RuleNumber;
 
 const BLOCK: usize = 4096;
 
-const LONGEST: usize = 4_294_967_295;
+const LONGEST: usize = u32::MAX as usize;
 
 const CRC_START: u16 = 0xFFFF;
 
@@ -25,7 +26,7 @@ const CRC_START: u16 = 0xFFFF;
 const FEW: usize = 16;
 
 // A control write with the first `size` bytes of the output.
-#[derive(Clone, Copy)]
+#[derive(Clone, Copy, Debug, PartialEq, Eq)]
 pub struct Control {
     pub request_type: u8,
     pub request: u8,
@@ -34,27 +35,72 @@ pub struct Control {
     pub size: usize,
 }
 
-#[derive(Clone, Copy)]
+#[derive(Clone, Copy, Debug, PartialEq, Eq)]
 pub enum PartStep {
     // That many bytes were taken.
     Taken(usize),
     // That many were taken, and the block is full.
     WriteControl(usize, Control),
+}
+
+// 20, 26, 25: why a part is refused.
+#[derive(Clone, Copy, Debug, PartialEq, Eq)]
+pub enum PartError {
     OutputTooShort,
     AlreadyClosed,
     ImageTooLong,
 }
 
-#[derive(Clone, Copy)]
+impl RuleNumber for PartError {
+    ghost rule_number = { part_error_number };
+
+    fn number(self) -> u8 {
+        match self {
+            PartError::OutputTooShort => 20,
+            PartError::AlreadyClosed => 26,
+            PartError::ImageTooLong => 25,
+        }
+    }
+}
+
+#[derive(Clone, Copy, Debug, PartialEq, Eq)]
 pub enum UploadStep {
     WriteControl(Control),
     Finished,
+}
+
+// 20, 27: why a closing or whole-upload step is refused.
+#[derive(Clone, Copy, Debug, PartialEq, Eq)]
+pub enum UploadError {
     OutputTooShort,
     ImageDiffers,
 }
 
+impl RuleNumber for UploadError {
+    ghost rule_number = { upload_error_number };
+
+    fn number(self) -> u8 {
+        match self {
+            UploadError::OutputTooShort => 20,
+            UploadError::ImageDiffers => 27,
+        }
+    }
+}
+
+// 25: an image that is too long for any upload.
+#[derive(Clone, Copy, Debug, PartialEq, Eq)]
+pub struct ImageTooLong;
+
+impl RuleNumber for ImageTooLong {
+    ghost rule_number = { image_too_long_number };
+
+    fn number(self) -> u8 {
+        25
+    }
+}
+
 // A part-wise upload. The first `taken % 4096` bytes of the block wait for their transfer; the check covers all that was taken.
-#[derive(Clone, Copy)]
+#[derive(Clone, Copy, Debug, PartialEq, Eq)]
 pub struct MaskRomOperation {
     pub area: u16,
     pub taken: u32,
@@ -63,20 +109,20 @@ pub struct MaskRomOperation {
     pub block: [u8; 4096],
 }
 
-#[derive(Clone, Copy)]
+#[derive(Clone, Copy, Debug, PartialEq, Eq)]
 pub struct PartStepped {
-    pub step: PartStep,
+    pub step: Result<PartStep, PartError>,
     pub next: MaskRomOperation,
 }
 
-#[derive(Clone, Copy)]
+#[derive(Clone, Copy, Debug, PartialEq, Eq)]
 pub struct CloseStepped {
-    pub step: UploadStep,
+    pub step: Result<UploadStep, UploadError>,
     pub next: MaskRomOperation,
 }
 
 // A whole upload, of an image that is lent at every step.
-#[derive(Clone, Copy)]
+#[derive(Clone, Copy, Debug, PartialEq, Eq)]
 pub struct WholeUpload {
     pub area: u16,
     pub length: u32,
@@ -85,72 +131,16 @@ pub struct WholeUpload {
     pub steps: MaskRomSteps,
 }
 
-#[derive(Clone, Copy)]
-pub enum UploadStart {
-    Started,
-    ImageTooLong,
-}
-
-#[derive(Clone, Copy)]
+#[derive(Clone, Copy, Debug, PartialEq, Eq)]
 pub struct WholeStart {
-    pub start: UploadStart,
+    pub start: Result<(), ImageTooLong>,
     pub upload: WholeUpload,
 }
 
-#[derive(Clone, Copy)]
+#[derive(Clone, Copy, Debug, PartialEq, Eq)]
 pub struct WholeStepped {
-    pub step: UploadStep,
+    pub step: Result<UploadStep, UploadError>,
     pub next: WholeUpload,
-}
-
-impl PartStep {
-    // The answer's number in the rules, 0 where it gives something.
-    #[tactic(auto, unfolding(promise::specs::Told::number, crate::specs::Answers::part_told))]
-    pub fn number(self) -> u8
-        ensures { result ≡ number (part_told self) }
-    {
-        match self {
-            PartStep::Taken(_) => 0,
-            PartStep::WriteControl(_, _) => 0,
-            PartStep::OutputTooShort => 20,
-            PartStep::AlreadyClosed => 26,
-            PartStep::ImageTooLong => 25,
-        }
-    }
-}
-
-impl UploadStep {
-    // The answer's number in the rules, 0 where it gives something.
-    #[tactic(auto, unfolding(promise::specs::Told::number, crate::specs::Answers::step_told))]
-    pub fn number(self) -> u8
-        ensures { result ≡ number (step_told self) }
-    {
-        match self {
-            UploadStep::WriteControl(_) => 0,
-            UploadStep::Finished => 0,
-            UploadStep::OutputTooShort => 20,
-            UploadStep::ImageDiffers => 27,
-        }
-    }
-}
-
-impl UploadStart {
-    // The answer's number in the rules, 0 where it gives something.
-    #[tactic(auto, unfolding(promise::specs::Told::number, crate::specs::Answers::start_told))]
-    pub fn number(self) -> u8
-        ensures { result ≡ number (start_told self) }
-    {
-        match self {
-            UploadStart::Started => 0,
-            UploadStart::ImageTooLong => 25,
-        }
-    }
-}
-
-fn least(a: usize, b: usize) -> usize
-    ensures { result ≡ min a b }
-{
-    if a < b { a } else { b }
 }
 
 fn control_of(area: u16, size: usize) -> Control
@@ -168,7 +158,7 @@ fn control_of(area: u16, size: usize) -> Control
 // What is asked of the transport: a control write, or nothing any more.
 #[tactic(auto, unfolding(crate::specs::Answers::step_told, crate::specs::PartWise::asks))]
 fn asked(steps: MaskRomSteps, area: u16, size: usize) -> UploadStep
-    ensures { step_told result ≡ given (asks steps area size) }
+    ensures { step_told (Ok result) ≡ given (asks steps area size) }
 {
     match steps {
         MaskRomSteps::Done => UploadStep::Finished,
@@ -180,42 +170,28 @@ impl MaskRomOperation {
     pub fn new(area: u16) -> MaskRomOperation
         ensures { result ≡ fresh area }
     {
-        let block = [0u8; 4096];
         MaskRomOperation {
             area,
             taken: 0,
             crc: CRC_START,
             steps: MaskRomSteps::Writing,
-            block,
-        }
-    }
-
-    fn with(self, taken: u32, crc: u16, block: [u8; 4096]) -> MaskRomOperation
-        ensures { result ≡ with_block self taken crc block }
-    {
-        let steps = self.steps;
-        MaskRomOperation {
-            area: self.area,
-            taken,
-            crc,
-            steps,
-            block,
+            block: [0; 4096],
         }
     }
 
     // Bytes that the block has room for are put behind those that wait.
-    fn hold(self, more: &[u8]) -> MaskRomOperation
+    fn hold(mut self, more: &[u8]) -> MaskRomOperation
         requires { (waiting self + length more.now ≤ 4096) × (self.taken + length more.now ≤ 4294967295) }
         ensures { result ≡ holding self more.now }
     {
         let at = (self.taken % 4096) as usize;
-        let mut block = self.block;
-        lent_bytes::copy(more, &mut block[at..]);
-        let crc = crc::update(self.crc, more);
-        self.with(self.taken + (more.len() as u32), crc, block)
+        self.block[at..at + more.len()].copy_from_slice(more);
+        self.taken += more.len() as u32;
+        self.crc = crc::update(self.crc, more);
+        self
     }
 
-    fn after_part(self, step: PartStep) -> PartStepped
+    fn after_part(self, step: Result<PartStep, PartError>) -> PartStepped
         ensures { result ≡ parted step self }
     {
         PartStepped { step, next: self }
@@ -227,42 +203,34 @@ impl MaskRomOperation {
         ensures { PartMeets result self part.now out.old out.new }
     {
         if out.len() < BLOCK {
-            return self.after_part(PartStep::OutputTooShort);
+            return self.after_part(Err(PartError::OutputTooShort));
         }
-        let steps = self.steps;
-        let MaskRomSteps::Writing = steps else {
-            return self.after_part(PartStep::AlreadyClosed);
+        let MaskRomSteps::Writing = self.steps else {
+            return self.after_part(Err(PartError::AlreadyClosed));
         };
         let taken = self.taken as usize;
         if LONGEST < taken + part.len() {
-            return self.after_part(PartStep::ImageTooLong);
+            return self.after_part(Err(PartError::ImageTooLong));
         }
         let at = taken % BLOCK;
-        let n = least(BLOCK - at, part.len());
+        let n = (BLOCK - at).min(part.len());
         let next = self.hold(&part[..n]);
         if at + n < BLOCK {
-            return next.after_part(PartStep::Taken(n));
+            return next.after_part(Ok(PartStep::Taken(n)));
         }
-        let block = next.block;
-        let size = lent_bytes::copy(&block, out);
-        next.after_part(PartStep::WriteControl(n, control_of(self.area, size)))
+        out[..BLOCK].copy_from_slice(&next.block);
+        next.after_part(Ok(PartStep::WriteControl(n, control_of(self.area, BLOCK))))
     }
 
-    fn moved_to(self, moved: Moved) -> MaskRomOperation
+    fn moved_to(mut self, moved: Moved) -> MaskRomOperation
         ensures { result ≡ with_moved self moved.crc moved.steps }
     {
-        let steps = moved.steps;
-        let block = self.block;
-        MaskRomOperation {
-            area: self.area,
-            taken: self.taken,
-            crc: moved.crc,
-            steps,
-            block,
-        }
+        self.crc = moved.crc;
+        self.steps = moved.steps;
+        self
     }
 
-    fn after_close(self, step: UploadStep) -> CloseStepped
+    fn after_close(self, step: Result<UploadStep, UploadError>) -> CloseStepped
         ensures { result ≡ closed_with step self }
     {
         CloseStepped { step, next: self }
@@ -273,14 +241,12 @@ impl MaskRomOperation {
         ensures { CloseMeets result self out.old out.new }
     {
         let n = (self.taken % 4096) as usize;
-        let steps = self.steps;
-        let block = self.block;
-        let sent = maskrom_transfer::send(steps, self.crc, block, n, out);
-        let Sent::Moved(to) = sent else {
-            return self.after_close(UploadStep::OutputTooShort);
+        let sent = maskrom_transfer::send(self.steps, self.crc, self.block, n, out);
+        let Ok(to) = sent else {
+            return self.after_close(Err(UploadError::OutputTooShort));
         };
-        let step = asked(steps, self.area, to.size);
-        self.moved_to(to).after_close(step)
+        let step = asked(self.steps, self.area, to.size);
+        self.moved_to(to).after_close(Ok(step))
     }
 }
 
@@ -301,18 +267,15 @@ fn new_whole(area: u16, length: u32) -> WholeUpload
 pub fn write_area(area: u16, image: &[u8]) -> WholeStart
     ensures { StartMeets result area image.now }
 {
-    let n = image.len();
-    if LONGEST < n {
-        let upload = new_whole(area, 0);
+    let Ok(length) = u32::try_from(image.len()) else {
         return WholeStart {
-            start: UploadStart::ImageTooLong,
-            upload,
+            start: Err(ImageTooLong),
+            upload: new_whole(area, 0),
         };
-    }
-    let upload = new_whole(area, n as u32);
+    };
     WholeStart {
-        start: UploadStart::Started,
-        upload,
+        start: Ok(()),
+        upload: new_whole(area, length),
     }
 }
 
@@ -322,7 +285,7 @@ fn chunk_size(steps: MaskRomSteps, left: usize) -> usize
     ensures { result ≡ min (most steps) left }
 {
     match steps {
-        MaskRomSteps::Writing => least(BLOCK, left),
+        MaskRomSteps::Writing => BLOCK.min(left),
         _ => 0,
     }
 }
@@ -333,27 +296,24 @@ fn crc_over(crc: u16, chunk: &[u8]) -> u16
     ensures { result ≡ crc_over crc chunk.now }
 {
     if chunk.len() < FEW {
-        return crc::update_by_table(crc, chunk);
+        crc::update_by_table(crc, chunk)
+    } else {
+        crc::update(crc, chunk)
     }
-    crc::update(crc, chunk)
 }
 
 impl WholeUpload {
-    fn moved_on(self, n: usize, to: Moved) -> WholeUpload
+    fn moved_on(mut self, n: usize, to: Moved) -> WholeUpload
         requires { self.taken + n ≤ 4294967295 }
         ensures { result ≡ sent_on self n to.crc to.steps }
     {
-        let steps = to.steps;
-        WholeUpload {
-            area: self.area,
-            length: self.length,
-            taken: self.taken + (n as u32),
-            crc: to.crc,
-            steps,
-        }
+        self.taken += n as u32;
+        self.crc = to.crc;
+        self.steps = to.steps;
+        self
     }
 
-    fn after_step(self, step: UploadStep) -> WholeStepped
+    fn after_step(self, step: Result<UploadStep, UploadError>) -> WholeStepped
         ensures { result ≡ stepped_with step self }
     {
         WholeStepped { step, next: self }
@@ -363,15 +323,13 @@ impl WholeUpload {
         requires { (length chunk.now ≤ 4096) × (self.taken + length chunk.now ≤ 4294967295) }
         ensures { Meets (step_told result.step) result.next out.old out.new self (sends_on self chunk.now (length out.old)) }
     {
-        let n = chunk.len();
-        let steps = self.steps;
         let crc = crc_over(self.crc, chunk);
-        let sent = maskrom_transfer::send_lent(steps, crc, chunk, out);
-        let Sent::Moved(to) = sent else {
-            return self.after_step(UploadStep::OutputTooShort);
+        let sent = maskrom_transfer::send_lent(self.steps, crc, chunk, out);
+        let Ok(to) = sent else {
+            return self.after_step(Err(UploadError::OutputTooShort));
         };
-        let step = asked(steps, self.area, to.size);
-        self.moved_on(n, to).after_step(step)
+        let step = asked(self.steps, self.area, to.size);
+        self.moved_on(chunk.len(), to).after_step(Ok(step))
     }
 
     // The next transfer of the image, or the finish.
@@ -380,15 +338,14 @@ impl WholeUpload {
         ensures { StepMeets result self image.now out.old out.new }
     {
         if out.len() < BLOCK {
-            return self.after_step(UploadStep::OutputTooShort);
+            return self.after_step(Err(UploadError::OutputTooShort));
         }
         let length = image.len();
-        if length != (self.length as usize) {
-            return self.after_step(UploadStep::ImageDiffers);
+        if length != self.length as usize {
+            return self.after_step(Err(UploadError::ImageDiffers));
         }
-        let steps = self.steps;
-        let from = least(self.taken as usize, length);
-        let end = from + chunk_size(steps, length - from);
+        let from = length.min(self.taken as usize);
+        let end = from + chunk_size(self.steps, length - from);
         self.send_on(&image[from..end], out)
     }
 }

@@ -1,12 +1,11 @@
 -- Laws on lists that the library lacks.
-use Prim.Native.Nat.{ℕ, suc, ◌<◌, ◌/◌, ◌%◌, min}
+use Prim.Native.Nat.{ℕ, suc, ◌<◌, min}
 use mathlib.Core.Path.{◌≡◌, ap, sym, ◌∙◌}
 use mathlib.Core.List.{List, [], ◌∷◌, ◌++◌, append_assoc}
-use native.Mathlib.Omega.{arith}
 use native.Mathlib.Numerals.{add-one}
 use lib.ListN.{length, take, drop, get_or, set, length-append, length-take, take-append-drop}
 use lib.Seq.{drop-cons, set-append_seam, take-append_seam}
-use Rattle.promise.specs.Bytes.{low_first, high_first, front}
+use Rattle.promise.specs.Bytes.{front}
 
 -- a byte stored behind those at the front
 pub stored : (bs old : List ℕ) (v : ℕ) → length bs < length old → set (front bs old) (length bs) v ≡ front (bs ++ (v ∷ [])) old
@@ -15,10 +14,6 @@ stored bs old v h =
     ∙ set-append_seam bs (get_or old (length bs) 0) (drop (suc (length bs)) old) v
     ∙ sym (append_assoc bs (v ∷ []) (drop (suc (length bs)) old))
     ∙ ap (λ (n : ℕ). (bs ++ (v ∷ [])) ++ drop n old) (sym (length-append bs (v ∷ []) ∙ add-one (length bs)))
-
-pub two_bytes : (v : ℕ) → v < 65536 → high_first 2 v ≡ v / 256 ∷ v % 256 ∷ []
-unfolding low_first high_first
-two_bytes v h = let e : v / 256 % 256 ≡ v / 256 = omega arith in rw e
 
 pub take_min : (k : ℕ) (l : List ℕ) → take (min k (length l)) l ≡ take k l
 take_min k l =

@@ -4,10 +4,11 @@ use mathlib.Core.Path.{◌≡◌, refl, ap, sym, ◌∙◌}
 use mathlib.Core.List.{List}
 use Rattle.promise.specs.Told.{Told, given, refused}
 use Rattle.maskrom_transfer.specs.declared.Moved.{Moved}
-use Rattle.maskrom_transfer.specs.declared.Sent.{Sent}
-use Rattle.maskrom_transfer.specs.declared.Sent.TheVariants as sent
 use Rattle.promise.specs.Does.{Does, Meets}
 use Rattle.maskrom_transfer.specs.Sending.{sent_told}
+use Rattle.std.specs.Prelude.{Result}
+use Rattle.rule_number.specs.declared.OutputTooShort.{OutputTooShort}
+use Rattle.std.specs.declared.result.Result.TheVariants.{Ok, Err}
 
 pub record Same {A R : Type 0} (told told' : Told A) (back back' : R) (new new' : List ℕ) : Type 0 where
   pub tells : told ≡ told'
@@ -23,14 +24,14 @@ same told told' back back' self old new new' step m m' = record {
 }
 
 -- number and values say which answer it was
-sent_of : Told Moved → Sent
-sent_of (given m) = sent.Moved m
-sent_of (refused n vs) = sent.OutputTooShort
+sent_of : Told Moved → (Result Moved OutputTooShort)
+sent_of (given m) = Ok m
+sent_of (refused n vs) = Err (record {})
 
-sent_back : (r : Sent) → sent_of (sent_told r) ≡ r
+sent_back : (r : Result Moved OutputTooShort) → sent_of (sent_told r) ≡ r
 unfolding sent_of sent_told
-sent_back (sent.Moved m) = refl
-sent_back sent.OutputTooShort = refl
+sent_back (Ok m) = refl
+sent_back (Err e) = refl
 
-pub send_one : (r r' : Sent) → sent_told r ≡ sent_told r' → r ≡ r'
+pub send_one : (r r' : Result Moved OutputTooShort) → sent_told r ≡ sent_told r' → r ≡ r'
 send_one r r' e = sym (sent_back r) ∙ ap sent_of e ∙ sent_back r'

@@ -4,14 +4,15 @@ use Rattle.promise.specs.Told.{Told, given, refused}
 use Rattle.promise.specs.Rules.{unless, room_rule, too_short}
 use Rattle.maskrom_transfer.specs.declared.MaskRomSteps.{MaskRomSteps}
 use Rattle.maskrom_transfer.specs.declared.Moved.{Moved}
-use Rattle.maskrom_transfer.specs.declared.Sent.{Sent}
-use Rattle.maskrom_transfer.specs.declared.Sent.TheVariants as sent
 use Rattle.maskrom_transfer.specs.Moves.{block_size, Moves, moves_at}
 use Rattle.promise.specs.Does.{Does, does}
+use Rattle.std.specs.Prelude.{Result}
+use Rattle.rule_number.specs.declared.OutputTooShort.{OutputTooShort}
+use Rattle.std.specs.declared.result.Result.TheVariants.{Ok, Err}
 
-unfoldable pub sent_told : Sent → Told Moved
-sent_told (sent.Moved m) = given m
-sent_told sent.OutputTooShort = refused too_short []
+unfoldable pub sent_told : Result Moved OutputTooShort → Told Moved
+sent_told (Ok m) = given m
+sent_told (Err e) = refused too_short []
 
 -- what is told of a step: how many bytes it put into the output, the register, and where the upload then stands
 abbrev pub moved : Moves → Moved

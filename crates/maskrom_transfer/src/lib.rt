@@ -2,17 +2,18 @@
 
 #![tactic(auto)]
 
-ghost use Rattle.std.specs.Prelude.{◌≡◌, [], ◌∷◌, ◌++◌, ◌+◌, ◌≤◌, min, length, take};
-ghost use Rattle.promise.specs.Told.{number};
+ghost use Rattle.std.specs.Prelude.{◌≡◌, [], ◌∷◌, ◌++◌, ◌+◌, ◌≤◌, length, take};
 ghost use Rattle.maskrom_transfer.specs.Moves.{block_size, check_bytes, writing, moves_at};
 ghost use Rattle.maskrom_transfer.specs.Code.{PutMeets, SendMeets};
 ghost use Rattle.promise.specs.Does.{Meets};
 ghost use Rattle.maskrom_transfer.specs.Sending.{sent_told, send_step};
 
+use rule_number::OutputTooShort;
+
 const BLOCK: usize = 4096;
 
 // Where an upload stands: the image goes on, its check is left, the last zero is left, nothing is left.
-#[derive(Clone, Copy)]
+#[derive(Clone, Copy, Debug, PartialEq, Eq)]
 pub enum MaskRomSteps {
     Writing,
     Check,
@@ -21,36 +22,11 @@ pub enum MaskRomSteps {
 }
 
 // What was put into the output, the check behind it, and where the upload then stands.
-#[derive(Clone, Copy)]
+#[derive(Clone, Copy, Debug, PartialEq, Eq)]
 pub struct Moved {
     pub size: usize,
     pub crc: u16,
     pub steps: MaskRomSteps,
-}
-
-#[derive(Clone, Copy)]
-pub enum Sent {
-    Moved(Moved),
-    OutputTooShort,
-}
-
-impl Sent {
-    // The answer's number in the rules, 0 where it gives something.
-    #[tactic(auto, unfolding(promise::specs::Told::number, crate::specs::Sending::sent_told))]
-    pub fn number(self) -> u8
-        ensures { result ≡ number (sent_told self) }
-    {
-        match self {
-            Sent::Moved(_) => 0,
-            Sent::OutputTooShort => 20,
-        }
-    }
-}
-
-fn least(a: usize, b: usize) -> usize
-    ensures { result ≡ min a b }
-{
-    if a < b { a } else { b }
 }
 
 // The bytes go to the front of the output.
@@ -58,7 +34,9 @@ fn put(bytes: &[u8], out: &mut [u8]) -> usize
     requires { length bytes.now ≤ length out.old }
     ensures { PutMeets result bytes.now out.old out.new }
 {
-    lent_bytes::copy(bytes, out)
+    let n = bytes.len();
+    out[..n].copy_from_slice(bytes);
+    n
 }
 
 // The same with a zero behind them.
@@ -77,8 +55,7 @@ fn with_check(bytes: &[u8], check: u16, out: &mut [u8]) -> usize
     ensures { PutMeets result (bytes.now ++ check_bytes check) out.old out.new }
 {
     let n = put(bytes, out);
-    out[n] = (check / 256) as u8;
-    out[n + 1] = (check % 256) as u8;
+    [out[n], out[n + 1]] = check.to_be_bytes();
     n + 2
 }
 
@@ -87,28 +64,27 @@ fn write_on(crc: u16, bytes: &[u8], out: &mut [u8]) -> Moved
     requires { (length bytes.now ≤ 4096) × (4096 ≤ length out.old) }
     ensures { SendMeets result out.old out.new (writing crc bytes.now) }
 {
-    let n = bytes.len();
-    if n == 4096 {
-        let size = put(bytes, out);
-        let steps = MaskRomSteps::Writing;
-        return Moved { size, crc, steps };
-    }
-    if n == 4095 {
-        let size = with_zero(bytes, out);
-        let zero = [0u8; 1];
-        let crc = crc::update_by_table(crc, &zero);
-        let steps = MaskRomSteps::Check;
-        return Moved { size, crc, steps };
-    }
-    let size = with_check(bytes, crc, out);
-    if n == 4094 {
-        let steps = MaskRomSteps::Dummy;
-        return Moved { size, crc, steps };
-    }
-    Moved {
-        size,
-        crc,
-        steps: MaskRomSteps::Done,
+    match bytes.len() {
+        4096 => Moved {
+            size: put(bytes, out),
+            crc,
+            steps: MaskRomSteps::Writing,
+        },
+        4095 => Moved {
+            size: with_zero(bytes, out),
+            crc: crc::update_by_table(crc, &[0]),
+            steps: MaskRomSteps::Check,
+        },
+        4094 => Moved {
+            size: with_check(bytes, crc, out),
+            crc,
+            steps: MaskRomSteps::Dummy,
+        },
+        _ => Moved {
+            size: with_check(bytes, crc, out),
+            crc,
+            steps: MaskRomSteps::Done,
+        },
     }
 }
 
@@ -118,22 +94,16 @@ fn send_at(steps: MaskRomSteps, crc: u16, bytes: &[u8], out: &mut [u8]) -> Moved
 {
     match steps {
         MaskRomSteps::Writing => write_on(crc, bytes, out),
-        MaskRomSteps::Check => {
-            let size = with_check(&bytes[..0], crc, out);
-            Moved {
-                size,
-                crc,
-                steps: MaskRomSteps::Done,
-            }
-        }
-        MaskRomSteps::Dummy => {
-            let size = with_zero(&bytes[..0], out);
-            Moved {
-                size,
-                crc,
-                steps: MaskRomSteps::Done,
-            }
-        }
+        MaskRomSteps::Check => Moved {
+            size: with_check(&[], crc, out),
+            crc,
+            steps: MaskRomSteps::Done,
+        },
+        MaskRomSteps::Dummy => Moved {
+            size: with_zero(&[], out),
+            crc,
+            steps: MaskRomSteps::Done,
+        },
         MaskRomSteps::Done => Moved {
             size: 0,
             crc,
@@ -145,21 +115,31 @@ fn send_at(steps: MaskRomSteps, crc: u16, bytes: &[u8], out: &mut [u8]) -> Moved
 // One step of an image: the first 4,096 of the bytes are the next of it, all that is left where they are fewer, and the check covers the image to
 // their end. They are copied straight into the output, and the transfer is put together there.
 #[tactic(auto, unfolding(crate::specs::Sending::sent_told, crate::specs::Sending::send_step, promise::specs::Rules::or_refuse, promise::specs::Does::said, promise::specs::Does::sent, promise::specs::Does::after))]
-pub fn send_lent(steps: MaskRomSteps, crc: u16, bytes: &[u8], out: &mut [u8]) -> Sent
+pub fn send_lent(
+    steps: MaskRomSteps,
+    crc: u16,
+    bytes: &[u8],
+    out: &mut [u8],
+) -> Result<Moved, OutputTooShort>
     ensures { Meets (sent_told result) tt out.old out.new tt (send_step steps crc (take block_size bytes.now) (length out.old)) }
 {
     if out.len() < BLOCK {
-        return Sent::OutputTooShort;
+        return Err(OutputTooShort);
     }
-    let left = least(bytes.len(), BLOCK);
-    let to = send_at(steps, crc, &bytes[..left], out);
-    Sent::Moved(to)
+    let left = bytes.len().min(BLOCK);
+    Ok(send_at(steps, crc, &bytes[..left], out))
 }
 
 // The same, of the first n bytes of a block.
-pub fn send(steps: MaskRomSteps, crc: u16, block: [u8; 4096], n: usize, out: &mut [u8]) -> Sent
+pub fn send(
+    steps: MaskRomSteps,
+    crc: u16,
+    block: [u8; 4096],
+    n: usize,
+    out: &mut [u8],
+) -> Result<Moved, OutputTooShort>
     ensures { Meets (sent_told result) tt out.old out.new tt (send_step steps crc (take n block) (length out.old)) }
 {
-    let left = least(n, BLOCK);
+    let left = n.min(BLOCK);
     send_lent(steps, crc, &block[..left], out)
 }

@@ -10,8 +10,6 @@ use Rattle.promise.specs.Rules.{or_refuse}
 use Rattle.promise.specs.Over.{over}
 use Rattle.promise.proofs.Outcome.{either_way}
 use Rattle.mock_base.specs.Told.{result_told, error_values}
-use Rattle.mock_base.specs.declared.error.MockResult.{MockResult}
-use Rattle.mock_base.specs.declared.error.MockResult.TheVariants.{Done, Refused}
 use Rattle.mock_base.specs.declared.error.MockTransportError.TheVariants.{NoSlot}
 use Rattle.mock_base.proofs.Unique.{result_from, error_from, result_from_lem}
 use Rattle.mock_areas.specs.Slots.{slot_count, slot_size, NotAmong, AllHeld, LowestFree}
@@ -19,11 +17,13 @@ use Rattle.mock_areas.specs.Append.{append_step, area_told, AppendMeets, TakesSl
 use Rattle.mock_areas.specs.Contents.{bytes_at, contents, Sound, gains}
 use Rattle.mock_areas.proofs.Holdings.{append_grows, append_refused}
 use Rattle.mock_areas.specs.declared.AreaStep.{AreaStep}
-use Rattle.mock_areas.specs.declared.AreaAnswer.TheVariants.{Written}
 use Rattle.mock_areas.proofs.NewNumber.{no_slot_told, no_slot_means, new_number_told, takes_lowest_free}
 use Rattle.mock.specs.Device.{Call, MockMeets, session_of, is_upload, control_rules, write_control, with_areas, maskrom_area}
 use Rattle.mock.specs.declared.device.MockState.{MockState}
 use Rattle.mock.specs.declared.device.MockStep.{MockStep}
+use Rattle.std.specs.Prelude.{Result}
+use Rattle.mock_base.specs.declared.error.MockTransportError.{MockTransportError}
+use Rattle.std.specs.declared.result.Result.TheVariants.{Ok, Err}
 
 -- what a control call makes of the record and the store: its own area gains, all else stays
 pub record Controlled (s : MockState) (index : ℕ) (bytes store : List ℕ) (c : Call) : Type 0 where
@@ -79,23 +79,23 @@ module _ (s : MockState) (type request value index : ℕ) (bytes store after : L
   told_as : (write_control s type request value index bytes store).told ≡ (append_step s.areas index bytes store).told
   told_as = ap (λ (c : Call). c.told) appends
 
-  pub control_58 : (NotAmong index s.areas × AllHeld s.areas → r.answer.result ≡ Refused NoSlot)
-      × (r.answer.result ≡ Refused NoSlot → NotAmong index s.areas × AllHeld s.areas)
+  pub control_58 : (NotAmong index s.areas × AllHeld s.areas → r.answer.result ≡ Err NoSlot)
+      × (r.answer.result ≡ Err NoSlot → NotAmong index s.areas × AllHeld s.areas)
   unfolding result_from error_from result_told error_values
   control_58 = (
     (λ both. sym (result_from_lem r.answer.result r.answer.signature)
         ∙ ap result_from (meets.tells.tells ∙ told_as ∙ no_slot_told s.areas index bytes store eight both.0 both.1)),
     (λ e. no_slot_means s.areas index bytes store eight
-        (sym told_as ∙ sym meets.tells.tells ∙ ap (λ (x : MockResult). result_told x r.answer.signature) e)),
+        (sym told_as ∙ sym meets.tells.tells ∙ ap (λ (x : Result Unit MockTransportError). result_told x r.answer.signature) e)),
   )
 
   -- and a new index is not refused, where a slot is free and the bytes fit its size, as no data always does: it takes the lowest free slot
   pub control_new_number : (k : ℕ) → NotAmong index s.areas → LowestFree k s.areas → length bytes ≤ slot_size (length store)
-      → (r.answer.result ≡ Done) × TakesSlot k index (length bytes) s.areas r.state.areas × (after ≡ over (k * slot_size (length store)) bytes store)
+      → (r.answer.result ≡ Ok tt) × TakesSlot k index (length bytes) s.areas r.state.areas × (after ≡ over (k * slot_size (length store)) bytes store)
   unfolding result_from area_told
   control_new_number k new here fits =
       let done = new_number_told s.areas index bytes store eight k new here fits in
-      let step : AreaStep = record { answer = Written; areas = r.state.areas } in
+      let step : AreaStep = record { answer = Ok tt; areas = r.state.areas } in
       let like : AppendMeets step after (append_step s.areas index bytes store) =
       record {
         tells = sym done;

@@ -27,8 +27,6 @@ use Rattle.mock_base.specs.Told.{result_told, error_values}
 use Rattle.mock_base.specs.declared.cells.Variety.{Variety}
 use Rattle.mock_base.specs.declared.cells.Variety.TheVariants.{First, Nor}
 use Rattle.mock_base.specs.declared.config.MockDeviceConfig.{MockDeviceConfig}
-use Rattle.mock_base.specs.declared.error.MockResult.{MockResult}
-use Rattle.mock_base.specs.declared.error.MockResult.TheVariants.{Done, Refused}
 use Rattle.mock_base.specs.declared.error.MockTransportError.TheVariants.{UnalignedErase, ZeroBlockSize}
 use Rattle.mock_base.proofs.Unique.{result_from, error_from, result_from_lem}
 use Rattle.mock_table.specs.Turn.{Turn, refuses, done, reply_size}
@@ -53,6 +51,9 @@ use Rattle.mock.specs.Device.{Call, MockMeets, CreateMeets, session_of, bulk, bl
 use Rattle.mock.specs.Nor.{like, DiffersAt, ErasedBy, BlockErased, Through, no_call, a_write, a_read, a_control}
 use Rattle.mock.specs.declared.device.MockState.{MockState}
 use Rattle.mock.specs.declared.device.MockStep.{MockStep}
+use Rattle.std.specs.Prelude.{Result}
+use Rattle.mock_base.specs.declared.error.MockTransportError.{MockTransportError}
+use Rattle.std.specs.declared.result.Result.TheVariants.{Ok, Err}
 
 -- BITS. A byte that has one more bit after a bulk write lies in an erase that the head took: no write sets one
 pub bits_by_erase : (s : MockState) (flash bytes after : List ℕ) (r : MockStep) → s.variety ≡ Nor → MockMeets r after (write_bulk s flash bytes) → (i : ℕ)
@@ -124,7 +125,7 @@ failed_same false e = refl
 
 -- a write of sector data that the head took
 module _ (s : MockState) (flash bytes after : List ℕ) (r : MockStep) (c : CommandBlock) (nor : s.variety ≡ Nor) (awaits : s.current_command ≡ IO c)
-    (meets : MockMeets r after (write_bulk s flash bytes)) (accepted : r.answer.result ≡ Done) where
+    (meets : MockMeets r after (write_bulk s flash bytes)) (accepted : r.answer.result ≡ (Ok tt)) where
   abbrev at : ℕ
   at = c.cd_address * sector_size
 
@@ -133,7 +134,7 @@ module _ (s : MockState) (flash bytes after : List ℕ) (r : MockStep) (c : Comm
 
   as_nor : (write_bulk s flash bytes).told ≡ given tt
   unfolding result_told
-  as_nor = sym meets.tells.tells ∙ ap (λ (x : MockResult). result_told x r.answer.signature) accepted
+  as_nor = sym meets.tells.tells ∙ ap (λ (x : Result Unit MockTransportError). result_told x r.answer.signature) accepted
 
   put : (after ≡ over at cells flash) × (at + length bytes ≤ length flash) × (r.state.current_command ≡ Status c (cells_told bytes (drop at flash)))
   unfolding write_bulk stored_by flash_after pending_after
@@ -257,20 +258,20 @@ module _ (s : MockState) (flash bytes after : List ℕ) (r : MockStep) (sectors 
   row_63 (IO d) c read h = absurd (let z : ◌≡◌ {A = ℕ} 0 1 = cc in omega arith)
   row_63 (Status d status) c read h = absurd (let z : ◌≡◌ {A = ℕ} 0 1 = cc in omega arith)
 
-  pub unaligned_exactly : (Splitting → r.answer.result ≡ Refused UnalignedErase) × (r.answer.result ≡ Refused UnalignedErase → (s.variety ≡ Nor) × Splitting)
+  pub unaligned_exactly : (Splitting → r.answer.result ≡ Err UnalignedErase) × (r.answer.result ≡ Err UnalignedErase → (s.variety ≡ Nor) × Splitting)
   unfolding result_from error_from result_told error_values command_in write_row refuses
   unaligned_exactly = (
     (λ h. as_turn (refused 63 []) (row_63 s.current_command h.0 h.1 h.2)),
     (λ e.
-        let told : turn.told ≡ refused 63 [] = sym told_by_lem ∙ sym meets.tells.tells ∙ ap (λ (x : MockResult). result_told x r.answer.signature) e in
+        let told : turn.told ≡ refused 63 [] = sym told_by_lem ∙ sym meets.tells.tells ∙ ap (λ (x : Result Unit MockTransportError). result_told x r.answer.signature) e in
         let found = (write_touches s.variety block s.current_command s.last_reset sectors bytes).by_63 [] told in
         (splits_nor s.variety block found.0 found.2.parts, found)),
   )
 
-  pub unaligned_leaves : r.answer.result ≡ Refused UnalignedErase → (after ≡ flash) × (r.state.current_command ≡ None)
+  pub unaligned_leaves : r.answer.result ≡ Err UnalignedErase → (after ≡ flash) × (r.state.current_command ≡ None)
   unfolding result_told error_values write_bulk write_step_by write_step_of flash_after pending_after pend
   unaligned_leaves e =
-      let told : turn.told ≡ refused 63 [] = sym told_by_lem ∙ sym meets.tells.tells ∙ ap (λ (x : MockResult). result_told x r.answer.signature) e in
+      let told : turn.told ≡ refused 63 [] = sym told_by_lem ∙ sym meets.tells.tells ∙ ap (λ (x : Result Unit MockTransportError). result_told x r.answer.signature) e in
       let ended = (write_sane s.variety block (session_of s) sectors bytes).ends 63 [] told in (
         meets.leaves ∙ ap (λ (t : Told ℕ). (write_step_of t s.variety block (session_of s) flash bytes).leaves) legal
             ∙ ap (λ (x : Effect). flash_after x bytes flash) ended.1,
@@ -300,14 +301,14 @@ module _ (config : MockDeviceConfig) (n m : ℕ) (r : MockStep) (meets : CreateM
       on_test (eqb config.block_size_sectors 0) (λ t. (sectors, e, eqb-true config.block_size_sectors 0 t))
       (λ t. let f : ◌≡◌ {A = Told Unit} (given tt) (refused 62 []) = rw t at told in absurd (let z : ◌≡◌ {A = ℕ} 0 1 = cc in omega arith))
 
-  pub zero_block_exactly : (ZeroBlock → r.answer.result ≡ Refused ZeroBlockSize) × (r.answer.result ≡ Refused ZeroBlockSize → ZeroBlock)
+  pub zero_block_exactly : (ZeroBlock → r.answer.result ≡ Err ZeroBlockSize) × (r.answer.result ≡ Err ZeroBlockSize → ZeroBlock)
   unfolding created create_told result_from error_from result_told error_values and_then block_rules or_refuse
   zero_block_exactly = (
     (λ z.
         let told : create_told Nor config.block_size_sectors n ≡ refused 62 [] =
         ap (λ (t : Told ℕ). and_then t (λ sectors. unless (block_rules Nor config.block_size_sectors) (given tt))) z.1 ∙ rw (eq-eqb config.block_size_sectors 0 z.2) refl in
         sym (result_from_lem r.answer.result r.answer.signature) ∙ ap result_from (meets.tells.tells ∙ told)),
-    (λ e. told_62 (flash_sectors n) refl (sym meets.tells.tells ∙ ap (λ (x : MockResult). result_told x r.answer.signature) e)),
+    (λ e. told_62 (flash_sectors n) refl (sym meets.tells.tells ∙ ap (λ (x : Result Unit MockTransportError). result_told x r.answer.signature) e)),
   )
 
 -- 60 AND 61 keep everything, a status that is pending too, at either variety

@@ -39,8 +39,6 @@ use Rattle.mock_table.specs.Ways.{moved_by, switches, tells_storage}
 use Rattle.mock_table.specs.Table.{range_of, range_rule, length_rule, sector_turn, stored_reset, erase_rules, erase_turn, zero_length_turn, start_turn, write_io_turn, write_row, write_turn, reply_turn, code_turn, read_io_turn, status_turn, read_row}
 use Rattle.mock_table.specs.declared.session.CommandState.{CommandState}
 use Rattle.mock_table.specs.declared.session.CommandState.TheVariants.{None, IO, Status}
-use Rattle.mock_table.specs.declared.session.LastReset.{LastReset}
-use Rattle.mock_table.specs.declared.session.LastReset.TheVariants as reset
 use Rattle.mock_table.specs.declared.session.Session.{Session}
 use Rattle.mock_table.specs.declared.outcome.Effect.TheVariants.{Fill, Reply}
 use Rattle.mock_table.proofs.FirstVariety.{write_first, read_first}
@@ -53,6 +51,8 @@ use Rattle.mock.specs.Device.{Call, CreateMeets, MockMeets, fresh_state, created
 use Rattle.mock.specs.Made.{Made, creates, writes, reads, controls, FromBlock, OfBlock, OfVariety, OfOpcode, Reached}
 use Rattle.mock.specs.declared.device.MockState.{MockState}
 use Rattle.mock.specs.declared.device.MockStep.{MockStep}
+use Rattle.std.specs.Prelude.{Option}
+use Rattle.std.specs.declared.option.Option.TheVariants as option
 
 -- what was read from bytes fits its fields
 
@@ -90,7 +90,7 @@ module _ (bytes : List ℕ) (are : AreBytes bytes) where
 abbrev Stands : Turn → Type 0
 Stands t = OfBlock t.next.current_command
 
-module _ (v : Variety) (block : ℕ) (last : LastReset) (sectors actual : ℕ) where
+module _ (v : Variety) (block : ℕ) (last : Option ResetOpcode) (sectors actual : ℕ) where
   refuses_stands : (number : ℕ) (values : List ℕ) → Stands (refuses last number values)
   unfolding refuses
   refuses_stands number values = tt
@@ -163,7 +163,7 @@ module _ (v : Variety) (block : ℕ) (last : LastReset) (sectors actual : ℕ) w
   read_row_stands (IO c) of = read_io_stands c of.0
   read_row_stands (Status c status) of = status_stands c of status
 
-write_row_stands : (v : Variety) (block : ℕ) (at : CommandState) (last : LastReset) (sectors : ℕ) (bytes : List ℕ) → AreBytes bytes → OfBlock at → Stands (write_row v block at last sectors bytes)
+write_row_stands : (v : Variety) (block : ℕ) (at : CommandState) (last : Option ResetOpcode) (sectors : ℕ) (bytes : List ℕ) → AreBytes bytes → OfBlock at → Stands (write_row v block at last sectors bytes)
 unfolding write_row
 write_row_stands v block None last sectors bytes are of = start_stands v block last sectors (length bytes) (read_command bytes) (from_block bytes are)
 write_row_stands v block (IO c) last sectors bytes are of = write_io_stands v block last sectors (length bytes) c of.0
@@ -230,13 +230,13 @@ read_pending t First w s config flash buffer own quiet =
 read_pending t Nor w s config flash buffer own quiet = tt
 
 -- an opcode is one of five
-of_opcode : (last : LastReset) → OfOpcode last
-of_opcode reset.None = tt
-of_opcode (reset.Some opcode.Reset) = omega arith
-of_opcode (reset.Some opcode.MSC) = omega arith
-of_opcode (reset.Some opcode.PowerOff) = omega arith
-of_opcode (reset.Some opcode.Maskrom) = omega arith
-of_opcode (reset.Some opcode.Disconnect) = omega arith
+of_opcode : (last : Option ResetOpcode) → OfOpcode last
+of_opcode option.None = tt
+of_opcode (option.Some opcode.Reset) = omega arith
+of_opcode (option.Some opcode.MSC) = omega arith
+of_opcode (option.Some opcode.PowerOff) = omega arith
+of_opcode (option.Some opcode.Maskrom) = omega arith
+of_opcode (option.Some opcode.Disconnect) = omega arith
 
 -- what creation and each call make of it
 

@@ -20,8 +20,7 @@ use Rattle.mock_effects.proofs.Wrong as effects
 use Rattle.protocol.specs.declared.CommandBlock.{CommandBlock}
 use Rattle.mock_areas.specs.Slots.{fresh_areas, passes, first_at, held_at, place, area_found}
 use Rattle.mock_areas.specs.Append.{held_by, append_rules, appended_at, append_step}
-use Rattle.mock_areas.specs.declared.AreaFound.{AreaFound}
-use Rattle.mock_areas.specs.declared.AreaFound.TheVariants.{NotHeld, Held}
+use Rattle.mock_areas.specs.declared.Stretch.{Stretch}
 use Rattle.mock_base.specs.Flash.{flash_rules, flash_sectors, fits_in}
 use Rattle.mock_base.specs.Told.{result_told}
 use Rattle.mock_table.specs.Turn.{refuses, done, has_code, is_out, reply_size}
@@ -29,8 +28,6 @@ use Rattle.mock_table.specs.Ways.{stored_by, moved_by}
 use Rattle.mock_table.specs.Table.{sector_turn, write_io_turn, write_row, status_turn, read_row}
 use Rattle.mock_table.specs.declared.session.CommandState.{CommandState}
 use Rattle.mock_table.specs.declared.session.CommandState.TheVariants.{None, IO, Status}
-use Rattle.mock_table.specs.declared.session.LastReset.{LastReset}
-use Rattle.mock_table.specs.declared.session.LastReset.TheVariants as reset
 use Rattle.mock_base.specs.declared.cells.Variety.{Variety}
 use Rattle.mock_base.specs.declared.cells.Variety.TheVariants.{First, Nor}
 use Rattle.mock_base.specs.declared.config.MockDeviceConfig.{MockDeviceConfig}
@@ -39,6 +36,9 @@ use Rattle.mock_effects.specs.Steps.{pend, failed, write_step_of, write_step_by,
 use Rattle.mock.specs.Device.{session_of, MockMeets, CreateMeets, block_rules, create_told, created, fresh_state, write_bulk, read_bulk, is_upload, control_rules, write_control, maskrom_area}
 use Rattle.mock.specs.declared.device.MockState.{MockState}
 use Rattle.mock.specs.declared.device.MockStep.{MockStep}
+use Rattle.std.specs.Prelude.{Option}
+use Rattle.protocol_codes.specs.declared.ResetOpcode.{ResetOpcode}
+use Rattle.std.specs.declared.option.Option.TheVariants as option
 
 -- what is told by number
 abbrev told : MockStep → ℕ
@@ -53,9 +53,9 @@ state_number (Status c status) = 2
 abbrev waits : MockState → ℕ
 waits s = state_number s.current_command
 
-abbrev reset_told : LastReset → ℕ
-reset_told reset.None = 5
-reset_told (reset.Some opcode) = reset_number opcode
+abbrev reset_told : Option ResetOpcode → ℕ
+reset_told option.None = 5
+reset_told (option.Some opcode) = reset_number opcode
 
 -- the variety, and the status that is pending, by number; 2 where none is
 abbrev variety_number : Variety → ℕ
@@ -68,9 +68,9 @@ pending_number (IO c) = 2
 pending_number (Status c status) = status_number status
 
 -- where an area was found, 0 for not held
-abbrev start_of : AreaFound → ℕ
-start_of NotHeld = 0
-start_of (Held start n) = start
+abbrev start_of : Option Stretch → ℕ
+start_of option.None = 0
+start_of (option.Some found) = found.start
 
 -- a flash of one sector, a sector of ones, a store of 72 bytes, and a command that writes sector 0
 abbrev flash : List ℕ
@@ -91,12 +91,12 @@ elsewhere = switch_command 1 Emmc
 
 module _ (config : MockDeviceConfig) where
   -- a device with a store of 72 bytes, whose second slot is held by area 5 with three bytes
-  abbrev device : CommandState → LastReset → MockState
+  abbrev device : CommandState → Option ResetOpcode → MockState
   device state last =
       record { config = config; variety = First; areas = held_by fresh_areas 1 5 3; store_length = 72; last_reset = last; current_command = state }
 
   -- the same with NOR flash
-  abbrev nor_device : CommandState → LastReset → MockState
+  abbrev nor_device : CommandState → Option ResetOpcode → MockState
   nor_device state last =
       record { config = config; variety = Nor; areas = held_by fresh_areas 1 5 3; store_length = 72; last_reset = last; current_command = state }
 
@@ -146,7 +146,7 @@ module _ (config : MockDeviceConfig) where
     unfolding created create_told block_rules number and_then flash_sectors flash_rules or_refuse
     first_asks_for_blocks r e meets = let z : ◌≡◌ {A = ℕ} 62 0 = sym e ∙ ap number meets.tells.tells in omega arith
 
-  module _ (last : LastReset) where
+  module _ (last : Option ResetOpcode) where
     -- `MockState::write_bulk`: a NOR head that stores as the first variety does
     pub stores_as_the_first : (r : MockStep) → MockMeets r ones (write_bulk (nor_device (IO command) last) flash ones) → ⊥
     unfolding write_bulk write_step_by write_step_of flash_sectors flash_rules or_refuse write_row write_io_turn sector_turn is_out has_code fits_in done moved_by stored_by flash_after programmed over
@@ -213,26 +213,26 @@ module _ (config : MockDeviceConfig) where
     control_always_refusing r after n e meets = let z : suc n ≡ 0 = sym e ∙ ap number meets.tells.tells in omega arith
 
     -- `MockState::maskrom_area`: one area for all
-    pub one_area_for_all : (r : AreaFound) → r ≡ maskrom_area (device None last) 5 → r ≡ maskrom_area (device None last) 6 → ⊥
+    pub one_area_for_all : (r : Option Stretch) → r ≡ maskrom_area (device None last) 5 → r ≡ maskrom_area (device None last) 6 → ⊥
     unfolding area_found held_by fresh_areas held_at first_at passes
     one_area_for_all r first second = let z : ◌≡◌ {A = ℕ} 9 0 = ap start_of (sym first ∙ second) in omega arith
 
     -- slots of another store: of 72 bytes the second slot starts at 9
-    pub another_store : (n : ℕ) → Held 0 n ≡ maskrom_area (device None last) 5 → ⊥
+    pub another_store : (n : ℕ) → option.Some (record { start = 0; length = n }) ≡ maskrom_area (device None last) 5 → ⊥
     unfolding area_found held_by fresh_areas held_at first_at passes
     another_store n e = let z : ◌≡◌ {A = ℕ} 0 9 = ap start_of e in omega arith
 
   -- `MockState::read_bulk`: the reset forgotten
-  pub read_forgets_reset : (r : MockStep) (after : List ℕ) → r.state.last_reset ≡ reset.None
-      → MockMeets r after (read_bulk (device None (reset.Some Maskrom)) flash []) → ⊥
+  pub read_forgets_reset : (r : MockStep) (after : List ℕ) → r.state.last_reset ≡ option.None
+      → MockMeets r after (read_bulk (device None (option.Some Maskrom)) flash []) → ⊥
   unfolding read_bulk read_step_by read_step_of flash_sectors flash_rules or_refuse read_row refuses
   read_forgets_reset r after e meets =
       let z : ◌≡◌ {A = ℕ} 5 3 = sym (ap reset_told e) ∙ ap (λ (s : MockState). reset_told s.last_reset) meets.next in omega arith
 
   -- `MockState::last_reset`: one fixed answer
-  pub one_fixed_reset : (r : LastReset) → r ≡ (device None reset.None).last_reset → r ≡ (device None (reset.Some Maskrom)).last_reset → ⊥
+  pub one_fixed_reset : (r : Option ResetOpcode) → r ≡ (device None option.None).last_reset → r ≡ (device None (option.Some Maskrom)).last_reset → ⊥
   one_fixed_reset r first second = let z : ◌≡◌ {A = ℕ} 5 3 = ap reset_told (sym first ∙ second) in omega arith
 
   -- another reset than the last
-  pub another_reset : (r : LastReset) → r ≡ reset.Some Reset → r ≡ (device None (reset.Some Maskrom)).last_reset → ⊥
+  pub another_reset : (r : Option ResetOpcode) → r ≡ option.Some Reset → r ≡ (device None (option.Some Maskrom)).last_reset → ⊥
   another_reset r first second = let z : ◌≡◌ {A = ℕ} 0 3 = ap reset_told (sym first ∙ second) in omega arith

@@ -5,12 +5,11 @@ use Rattle.promise.specs.Rules.{Rule, rule, pick, unless, or_refuse}
 use Rattle.mock_areas.specs.Slots.{fresh_areas, area_found}
 use Rattle.mock_areas.specs.Append.{append_step}
 use Rattle.mock_areas.specs.declared.Areas.{Areas}
-use Rattle.mock_areas.specs.declared.AreaFound.{AreaFound}
+use Rattle.mock_areas.specs.declared.Stretch.{Stretch}
 use Rattle.mock_base.specs.Told.{Answers}
 use Rattle.mock_base.specs.Flash.{flash_sectors}
 use Rattle.mock_table.specs.declared.session.Session.{Session}
 use Rattle.mock_table.specs.declared.session.CommandState.TheVariants as state
-use Rattle.mock_table.specs.declared.session.LastReset.TheVariants as reset
 use Rattle.mock_effects.specs.Steps.{Step, write_step_by, read_step_by}
 use Rattle.mock_base.specs.declared.cells.Variety.{Variety}
 use Rattle.mock_base.specs.declared.cells.Variety.TheVariants.{First, Nor}
@@ -18,6 +17,8 @@ use Rattle.mock_base.specs.declared.config.MockDeviceConfig.{MockDeviceConfig}
 use Rattle.mock.specs.declared.device.MockState.{MockState}
 use Rattle.mock.specs.declared.device.MockStep.{MockStep}
 use Rattle.promise.specs.Does.{Comes}
+use Rattle.std.specs.Prelude.{Option}
+use Rattle.std.specs.declared.option.Option.TheVariants.{None}
 
 -- what is told, the next record, and the bytes lent mutably as they are left: flash, buffer or store
 abbrev pub Call : Type 0
@@ -46,7 +47,7 @@ fresh_state v config storeLength =
       variety = v;
       areas = fresh_areas;
       store_length = storeLength;
-      last_reset = reset.None;
+      last_reset = None;
       current_command = state.None;
     }
 
@@ -125,5 +126,5 @@ write_control s type request value index bytes store =
     })
 
 -- where an area's bytes stand, looked up by number
-abbrev pub maskrom_area : MockState → ℕ → AreaFound
+abbrev pub maskrom_area : MockState → ℕ → Option Stretch
 maskrom_area s number = area_found s.areas number s.store_length

@@ -12,10 +12,11 @@ use Rattle.mock_areas.specs.Reached.{Filled}
 use Rattle.mock_table.specs.Turn.{Quiet}
 use Rattle.mock_table.specs.declared.session.CommandState.{CommandState}
 use Rattle.mock_table.specs.declared.session.CommandState.TheVariants as state
-use Rattle.mock_table.specs.declared.session.LastReset.{LastReset}
-use Rattle.mock_table.specs.declared.session.LastReset.TheVariants as reset
 use Rattle.mock.specs.Device.{created, write_bulk, read_bulk, write_control}
 use Rattle.mock.specs.declared.device.MockState.{MockState}
+use Rattle.std.specs.Prelude.{Option}
+use Rattle.protocol_codes.specs.declared.ResetOpcode.{ResetOpcode}
+use Rattle.std.specs.declared.option.Option.TheVariants.{Some, None}
 
 -- the record that a creation of this variety for this configuration and a store of n bytes comes to, or a call on such a record, refused or not; what
 -- is written is bytes
@@ -45,9 +46,9 @@ OfVariety First at = Quiet at
 OfVariety Nor at = Unit
 
 -- the last reset is none, or an opcode of 0 to 4
-abbrev pub OfOpcode : LastReset → Type 0
-OfOpcode reset.None = Unit
-OfOpcode (reset.Some opcode) = reset_number opcode ≤ 4
+abbrev pub OfOpcode : Option ResetOpcode → Type 0
+OfOpcode None = Unit
+OfOpcode (Some opcode) = reset_number opcode ≤ 4
 
 -- what such a record is
 pub record Reached (v : Variety) (config : MockDeviceConfig) (n : ℕ) (s : MockState) : Type 0 where

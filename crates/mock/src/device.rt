@@ -3,15 +3,16 @@ ghost use Rattle.std.specs.Prelude.{◌≡◌, length};
 ghost use Rattle.mock.specs.Device.{is_upload, session_of, MockMeets, CreateMeets, fresh_state, create_told, created, write_bulk, read_bulk, write_control, maskrom_area};
 ghost use Rattle.mock_base.specs.Told.{Answers};
 ghost use Rattle.mock_base.specs.declared.cells.Variety.TheVariants.{First, Nor};
-ghost use Rattle.mock.specs.Code.{area_result, after_session, after_areas, refused_by};
+ghost use Rattle.mock.specs.Code.{area_error, after_session, after_areas, refused_by};
 
-use mock_areas::{AreaAnswer, AreaFound, AreaStep, Areas};
+use mock_areas::{AreaError, AreaStep, Areas, Stretch};
 use mock_base::cells::Variety;
 use mock_base::config::MockDeviceConfig;
-use mock_base::error::{MockAnswer, MockResult, MockTransportError};
-use mock_base::range::{FlashSectors, flash_sectors, size_answer};
+use mock_base::error::{MockAnswer, MockTransportError};
+use mock_base::range::{flash_sectors, size_answer};
 use mock_effects::{SessionStep, read_step_by, write_step_by};
-use mock_table::session::{CommandState, LastReset, Session};
+use mock_table::session::{CommandState, Session};
+use protocol_codes::ResetOpcode;
 
 #[derive(Clone, Copy)]
 pub struct MockState {
@@ -20,7 +21,7 @@ pub struct MockState {
     pub areas: Areas,
     // of the area store, at creation
     pub store_length: usize,
-    pub last_reset: LastReset,
+    pub last_reset: Option<ResetOpcode>,
     // with the status that is pending, where it awaits that
     pub current_command: CommandState,
 }
@@ -35,23 +36,17 @@ pub struct MockStep {
 fn is_upload(request_type: u8, request: u8, value: u16) -> bool
     ensures { result ≡ is_upload request_type request value }
 {
-    if request_type != 0x40 {
-        return false;
-    }
-    if request != 0xc {
-        return false;
-    }
-    value == 0
+    request_type == 0x40 && request == 0xc && value == 0
 }
 
-#[tactic(auto, unfolding(crate::specs::Code::area_result))]
-fn area_result(answer: AreaAnswer) -> MockResult
-    ensures { result ≡ area_result answer }
+// No From: both types are of other crates, of which neither stands on the other.
+#[tactic(auto, unfolding(crate::specs::Code::area_error))]
+fn area_error(error: AreaError) -> MockTransportError
+    ensures { result ≡ area_error error }
 {
-    match answer {
-        AreaAnswer::Written => MockResult::Done,
-        AreaAnswer::NoSlot => MockResult::Refused(MockTransportError::NoSlot),
-        AreaAnswer::SlotFull => MockResult::Refused(MockTransportError::SlotFull),
+    match error {
+        AreaError::NoSlot => MockTransportError::NoSlot,
+        AreaError::SlotFull => MockTransportError::SlotFull,
     }
 }
 
@@ -60,18 +55,18 @@ fn nor_answer(block_size: u16, length: usize) -> MockAnswer
     ensures { Answers result (create_told Nor block_size length) }
 {
     let size = flash_sectors(length);
-    let FlashSectors::Whole(_) = size else {
+    let Ok(_) = size else {
         return size_answer(size);
     };
     if block_size == 0 {
         return MockAnswer {
-            result: MockResult::Refused(MockTransportError::ZeroBlockSize),
-            signature: [0, 0, 0, 0],
+            result: Err(MockTransportError::ZeroBlockSize),
+            signature: [0; 4],
         };
     }
     MockAnswer {
-        result: MockResult::Done,
-        signature: [0, 0, 0, 0],
+        result: Ok(()),
+        signature: [0; 4],
     }
 }
 
@@ -81,11 +76,11 @@ impl MockState {
         ensures { result ≡ fresh_state variety config store_length }
     {
         MockState {
-            config: config,
-            variety: variety,
+            config,
+            variety,
             areas: Areas::new(),
-            store_length: store_length,
-            last_reset: LastReset::None,
+            store_length,
+            last_reset: None,
             current_command: CommandState::None,
         }
     }
@@ -113,59 +108,33 @@ impl MockState {
     fn session(self) -> Session
         ensures { result ≡ session_of self }
     {
-        let command = self.current_command;
-        let reset = self.last_reset;
         Session {
-            current_command: command,
-            last_reset: reset,
+            current_command: self.current_command,
+            last_reset: self.last_reset,
         }
     }
 
-    fn after_session(self, step: SessionStep) -> MockStep
+    fn after_session(mut self, step: SessionStep) -> MockStep
         ensures { result ≡ after_session self step }
     {
-        let answer = step.answer;
-        let session = step.session;
-        let config = self.config;
-        let variety = self.variety;
-        let areas = self.areas;
-        let reset = session.last_reset;
-        let command = session.current_command;
+        self.current_command = step.session.current_command;
+        self.last_reset = step.session.last_reset;
         MockStep {
-            answer: answer,
-            state: MockState {
-                config: config,
-                variety: variety,
-                areas: areas,
-                store_length: self.store_length,
-                last_reset: reset,
-                current_command: command,
-            },
+            answer: step.answer,
+            state: self,
         }
     }
 
-    fn after_areas(self, step: AreaStep) -> MockStep
+    fn after_areas(mut self, step: AreaStep) -> MockStep
         ensures { result ≡ after_areas self step }
     {
-        let answer = step.answer;
-        let areas = step.areas;
-        let config = self.config;
-        let variety = self.variety;
-        let reset = self.last_reset;
-        let command = self.current_command;
+        self.areas = step.areas;
         MockStep {
             answer: MockAnswer {
-                result: area_result(answer),
-                signature: [0, 0, 0, 0],
+                result: step.answer.map_err(area_error),
+                signature: [0; 4],
             },
-            state: MockState {
-                config: config,
-                variety: variety,
-                areas: areas,
-                store_length: self.store_length,
-                last_reset: reset,
-                current_command: command,
-            },
+            state: self,
         }
     }
 
@@ -174,8 +143,8 @@ impl MockState {
     {
         MockStep {
             answer: MockAnswer {
-                result: MockResult::Refused(error),
-                signature: [0, 0, 0, 0],
+                result: Err(error),
+                signature: [0; 4],
             },
             state: self,
         }
@@ -184,17 +153,14 @@ impl MockState {
     pub fn write_bulk(self, flash: &mut [u8], data: &[u8]) -> MockStep
         ensures { MockMeets result flash.new (write_bulk self flash.old «data».now) }
     {
-        let variety = self.variety;
         let block_size = self.config.block_size_sectors;
-        self.after_session(write_step_by(self.session(), variety, block_size, flash, data))
+        self.after_session(write_step_by(self.session(), self.variety, block_size, flash, data))
     }
 
     pub fn read_bulk(self, flash: &[u8], data: &mut [u8]) -> MockStep
         ensures { MockMeets result «data».new (read_bulk self flash.now «data».old) }
     {
-        let variety = self.variety;
-        let config = self.config;
-        self.after_session(read_step_by(self.session(), variety, config, flash, data))
+        self.after_session(read_step_by(self.session(), self.variety, self.config, flash, data))
     }
 
     pub fn write_control(
@@ -213,24 +179,22 @@ impl MockState {
         }
         if !is_upload(request_type, request, value) {
             return self.refused(MockTransportError::UnsupportedControl {
-                request_type: request_type,
-                request: request,
-                value: value,
+                request_type,
+                request,
+                value,
             });
         }
-        let areas = self.areas;
-        self.after_areas(areas.append(index, data, store))
+        self.after_areas(self.areas.append(index, data, store))
     }
 
     // Where an area's bytes stand in the store.
-    pub fn maskrom_area(self, area: u16) -> AreaFound
+    pub fn maskrom_area(self, area: u16) -> Option<Stretch>
         ensures { result ≡ maskrom_area self area }
     {
-        let areas = self.areas;
-        areas.find(area, self.store_length)
+        self.areas.find(area, self.store_length)
     }
 
-    pub fn last_reset(self) -> LastReset
+    pub fn last_reset(self) -> Option<ResetOpcode>
         ensures { result ≡ self.last_reset }
     {
         self.last_reset

@@ -17,36 +17,37 @@ use Rattle.promise.specs.Bytes.{field}
 use Rattle.promise.specs.Over.{over}
 use Rattle.promise.proofs.Over.{length_over, field_before, field_behind, field_grows}
 use Rattle.promise.proofs.Outcome.{Met, by_test, on_test, either_way}
-use Rattle.mock_areas.specs.Slots.{slot_count, slot_size, free_slot, fresh_areas, passes, first_at, held_at, is_held, used_at, place, area_found}
+use Rattle.mock_areas.specs.Slots.{slot_count, slot_size, free_slot, fresh_areas, passes, first_at, held_at, is_held, used_at, place, area_found, slot_held, slot_number, slot_used}
 use Rattle.mock_areas.specs.Append.{Appending, held_by, append_rules, refused_append, appended_at, append_step}
 use Rattle.mock_areas.specs.Contents.{bytes_at, contents, Sound, so_far, gains, Write, areas_after, store_after, gathered, Grows}
 use Rattle.mock_areas.specs.declared.Area.{Area}
 use Rattle.mock_areas.specs.declared.Areas.{Areas}
 use Rattle.mock_areas.specs.declared.Place.{Place}
-use Rattle.mock_areas.specs.declared.Wanted.TheVariants.{Free, Number}
-use Rattle.mock_areas.specs.declared.AreaFound.TheVariants.{NotHeld, Held}
+use Rattle.std.specs.Prelude.{Option}
+use Rattle.mock_areas.specs.declared.Stretch.{Stretch}
 use Rattle.mock_areas.proofs.Search.{found_passes, first_set, first_kept}
 use Rattle.mock_areas.proofs.Room.{slot_end, slot_inside}
+use Rattle.std.specs.declared.option.Option.TheVariants.{Some, None}
 
 -- a slot that is held by one number is not held by another, and a free slot by none
-held_by_one : (area : Area) (a b : ℕ) → (b ≡ a → ⊥) → passes (Number a) area ≡ true → passes (Number b) area ≡ false
+held_by_one : (area : Option Area) (a b : ℕ) → (b ≡ a → ⊥) → passes (Some a) area ≡ true → passes (Some b) area ≡ false
 unfolding passes
 held_by_one area a b other h =
-    on_test area.held
-    (λ t. let e : area.number ≡ a = eqb-true area.number a (rw t at h) in
-    rw t (ne_eqb area.number b (λ f. other (sym f ∙ e))))
+    on_test (slot_held area)
+    (λ t. let e : slot_number area ≡ a = eqb-true (slot_number area) a (rw t at h) in
+    rw t (ne_eqb (slot_number area) b (λ f. other (sym f ∙ e))))
     (λ t. rw t refl)
 
-free_by_none : (area : Area) (b : ℕ) → passes Free area ≡ true → passes (Number b) area ≡ false
+free_by_none : (area : Option Area) (b : ℕ) → passes None area ≡ true → passes (Some b) area ≡ false
 unfolding passes
-free_by_none area b h = rw (not-true area.held h) refl
+free_by_none area b h = rw (not-true (slot_held area) h) refl
 
-is_held_lem : (area : Area) (a : ℕ) → passes (Number a) area ≡ true → area.held ≡ true
+is_held_lem : (area : Option Area) (a : ℕ) → passes (Some a) area ≡ true → slot_held area ≡ true
 unfolding passes
-is_held_lem area a h = on_test area.held (λ t. t) (λ t. let z : false ≡ true = rw t at h in t ∙ z)
+is_held_lem area a h = on_test (slot_held area) (λ t. t) (λ t. let z : false ≡ true = rw t at h in t ∙ z)
 
 -- where a write goes, its slot being one of the eight: not behind the slot that holds the number, and to no slot that another holds
-module _ (number : ℕ) (slots : List Area) (eight : length slots ≡ slot_count) where
+module _ (number : ℕ) (slots : List (Option Area)) (eight : length slots ≡ slot_count) where
   first_of_number : (place number slots).slot < slot_count → (place number slots).slot ≤ held_at number slots
   unfolding place
   first_of_number =
@@ -55,30 +56,30 @@ module _ (number : ℕ) (slots : List Area) (eight : length slots ≡ slot_count
       (λ e h. let f = ltb-false (held_at number slots) slot_count e in omega arith)
 
   no_other : (b : ℕ) → (b ≡ number → ⊥) → (place number slots).slot < slot_count
-      → passes (Number b) (get_or slots (place number slots).slot free_slot) ≡ false
+      → passes (Some b) (get_or slots (place number slots).slot free_slot) ≡ false
   unfolding place held_at
   no_other b other =
-      by_test (λ (q : Place). q.slot < slot_count → passes (Number b) (get_or slots q.slot free_slot) ≡ false) (is_held number slots)
+      by_test (λ (q : Place). q.slot < slot_count → passes (Some b) (get_or slots q.slot free_slot) ≡ false) (is_held number slots)
       (λ e h. held_by_one (get_or slots (held_at number slots) free_slot) number b other
-      (found_passes (passes (Number number)) free_slot slots (omega arith)))
-      (λ e h. free_by_none (get_or slots (first_at (passes Free) slots) free_slot) b
-      (found_passes (passes Free) free_slot slots (omega arith)))
+      (found_passes (passes (Some number)) free_slot slots (omega arith)))
+      (λ e h. free_by_none (get_or slots (first_at (passes None) slots) free_slot) b
+      (found_passes (passes None) free_slot slots (omega arith)))
 
 -- a held number's slot is held, and by no other number
 module _ (areas : Areas) (store : List ℕ) (sound : Sound areas store) (b : ℕ) (h : is_held b areas.slots ≡ true) where
-  held_passes : passes (Number b) (get_or areas.slots (held_at b areas.slots) free_slot) ≡ true
+  held_passes : passes (Some b) (get_or areas.slots (held_at b areas.slots) free_slot) ≡ true
   unfolding held_at
   held_passes =
       let l = ltb-true (held_at b areas.slots) slot_count h in
       let k = sound.eight in
-      found_passes (passes (Number b)) free_slot areas.slots (omega arith)
+      found_passes (passes (Some b)) free_slot areas.slots (omega arith)
 
-  held_slot : (get_or areas.slots (held_at b areas.slots) free_slot).held ≡ true
+  held_slot : slot_held (get_or areas.slots (held_at b areas.slots) free_slot) ≡ true
   held_slot = is_held_lem (get_or areas.slots (held_at b areas.slots) free_slot) b held_passes
 
-  elsewhere : (i : ℕ) → passes (Number b) (get_or areas.slots i free_slot) ≡ false → held_at b areas.slots ≡ i → ⊥
+  elsewhere : (i : ℕ) → passes (Some b) (get_or areas.slots i free_slot) ≡ false → held_at b areas.slots ≡ i → ⊥
   elsewhere i f e =
-      let t : passes (Number b) (get_or areas.slots i free_slot) ≡ true = rw e at held_passes in
+      let t : passes (Some b) (get_or areas.slots i free_slot) ≡ true = rw e at held_passes in
       let z : false ≡ true = sym f ∙ t in
       let n : ◌≡◌ {A = ℕ} 0 1 = ap (λ (x : Bool). pick x 1 0) z in
       omega arith
@@ -92,7 +93,7 @@ apart_slots areas store sound a b other ha hb =
 -- bytes put into slot i behind `used` others, the slot not being another's and none before it being the number's
 module _ (areas : Areas) (number i used : ℕ) (bytes store : List ℕ) (sound : Sound areas store) (slot : i < slot_count)
     (room : used + length bytes ≤ slot_size (length store)) (first : i ≤ held_at number areas.slots)
-    (own : (b : ℕ) → (b ≡ number → ⊥) → passes (Number b) (get_or areas.slots i free_slot) ≡ false) where
+    (own : (b : ℕ) → (b ≡ number → ⊥) → passes (Some b) (get_or areas.slots i free_slot) ≡ false) where
   inside : i * slot_size (length store) + used + length bytes ≤ length store
   inside = omega (arith, slot_inside i (length store) slot)
 
@@ -104,15 +105,15 @@ module _ (areas : Areas) (number i used : ℕ) (bytes store : List ℕ) (sound :
   unfolding held_at held_by passes
   own_place =
       let h = sound.eight in
-      first_set (passes (Number number)) free_slot areas.slots i (record { held = true; number = number; used = used + length bytes }) (omega arith)
+      first_set (passes (Some number)) free_slot areas.slots i (Some (record { number = number; used = used + length bytes })) (omega arith)
       first (eq-eqb number number refl)
 
   own_used : used_at i (held_by areas i number (used + length bytes)).slots ≡ used + length bytes
   unfolding held_by
   own_used =
       let h = sound.eight in
-      ap (λ (a : Area). a.used)
-      (get_or-set_same areas.slots i (record { held = true; number = number; used = used + length bytes }) free_slot (omega arith))
+      ap slot_used
+      (get_or-set_same areas.slots i (Some (record { number = number; used = used + length bytes })) free_slot (omega arith))
 
   -- another slot's bytes and count are as they were
   beside : (j n : ℕ) → (j ≡ i → ⊥) → n ≤ slot_size (length store)
@@ -128,8 +129,8 @@ module _ (areas : Areas) (number i used : ℕ) (bytes store : List ℕ) (sound :
   other_used : (j : ℕ) → (j ≡ i → ⊥) → used_at j (held_by areas i number (used + length bytes)).slots ≡ used_at j areas.slots
   unfolding held_by
   other_used j far =
-      ap (λ (a : Area). a.used)
-      (get_or-set_other areas.slots i j (record { held = true; number = number; used = used + length bytes }) free_slot far)
+      ap slot_used
+      (get_or-set_other areas.slots i j (Some (record { number = number; used = used + length bytes })) free_slot far)
 
   own_bytes : contents number (held_by areas i number (used + length bytes)) (over (i * slot_size (length store) + used) bytes store)
       ≡ some (field (i * slot_size (length store)) used store ++ bytes)
@@ -140,7 +141,7 @@ module _ (areas : Areas) (number i used : ℕ) (bytes store : List ℕ) (sound :
   still_sound : Sound (held_by areas i number (used + length bytes)) (over (i * slot_size (length store) + used) bytes store)
   unfolding held_by
   still_sound =
-      let x : Area = record { held = true; number = number; used = used + length bytes } in
+      let x : Option Area = Some (record { number = number; used = used + length bytes }) in
       record {
         eight = length-set areas.slots i x ∙ sound.eight;
         within = λ at h.
@@ -156,7 +157,7 @@ module _ (areas : Areas) (number i used : ℕ) (bytes store : List ℕ) (sound :
     other_place : held_at b (held_by areas i number (used + length bytes)).slots ≡ held_at b areas.slots
     unfolding held_at held_by passes
     other_place =
-        first_kept (passes (Number b)) free_slot areas.slots i (record { held = true; number = number; used = used + length bytes }) (own b other)
+        first_kept (passes (Some b)) free_slot areas.slots i (Some (record { number = number; used = used + length bytes })) (own b other)
         (ne_eqb number b (λ e. other (sym e)))
 
     other_bytes : contents b (held_by areas i number (used + length bytes)) (over (i * slot_size (length store) + used) bytes store) ≡ contents b areas store
@@ -185,7 +186,7 @@ grows_at number bytes areas store sound met =
     let slot = leb-false slot_count p.slot met.0 in
     let room = ltb-false (slot_size (length store)) (p.used + length bytes) met.1.0 in
     let first = first_of_number number areas.slots sound.eight slot in
-    let own : (b : ℕ) → (b ≡ number → ⊥) → passes (Number b) (get_or areas.slots p.slot free_slot) ≡ false =
+    let own : (b : ℕ) → (b ≡ number → ⊥) → passes (Some b) (get_or areas.slots p.slot free_slot) ≡ false =
     λ b other. no_other number areas.slots sound.eight b other slot in
     record {
       long = long areas number p.slot p.used bytes store sound slot room first own;
@@ -228,7 +229,7 @@ fresh_sound store =
           on_test (ltb at slot_count)
           (λ l. get_or-replicate slot_count at free_slot free_slot (ltb-true at slot_count l))
           (λ l. get_or-eq_default (replicate slot_count free_slot) free_slot (ltb-false at slot_count l)) in
-          rw (ap (λ (a : Area). a.used) free) (omega arith);
+          rw (ap slot_used free) (omega arith);
     }
 
 pub fresh_empty : (number : ℕ) (store : List ℕ) → contents number fresh_areas store ≡ none
@@ -257,18 +258,27 @@ record Stands (areas : Areas) (number n start used : ℕ) : Type 0 where
   starts : start ≡ held_at number areas.slots * slot_size n
   counts : used ≡ used_at (held_at number areas.slots) areas.slots
 
-stands : (areas : Areas) (number n start used : ℕ) → area_found areas number n ≡ Held start used → Stands areas number n start used
-unfolding area_found
+found_stretch : Option Stretch → Stretch
+found_stretch None = record { start = 0; length = 0 }
+found_stretch (Some found) = found
+
+stands : (areas : Areas) (number n start used : ℕ) → area_found areas number n ≡ Some (record { start = start; length = used }) → Stands areas number n start used
+unfolding area_found found_stretch
 stands areas number n start used e =
     on_test (is_held number areas.slots)
-    (λ h. let f : Held (held_at number areas.slots * slot_size n) (used_at (held_at number areas.slots) areas.slots) ≡ Held start used = rw h at e in
-    record { held = h; starts = cc; counts = cc })
-    (λ h. let f : NotHeld ≡ Held start used = rw h at e in
+    (λ h. let here : Stretch = record { start = held_at number areas.slots * slot_size n; length = used_at (held_at number areas.slots) areas.slots } in
+    let there : Stretch = record { start = start; length = used } in
+    let f : Some here ≡ Some there = rw h at e in
+    let s : here ≡ there = ap found_stretch f in
+    record { held = h; starts = sym (ap (λ (x : Stretch). x.start) s); counts = sym (ap (λ (x : Stretch). x.length) s) })
+    (λ h. let there : Stretch = record { start = start; length = used } in
+    let none : Option Stretch = None in
+    let f : none ≡ Some there = rw h at e in
     let z : ◌≡◌ {A = ℕ} 0 1 = cc in absurd (omega arith))
 
 -- two areas never overlap
 pub areas_apart : (a b : ℕ) (areas : Areas) (store : List ℕ) → Sound areas store → (b ≡ a → ⊥) → (s m t n : ℕ)
-    → area_found areas a (length store) ≡ Held s m → area_found areas b (length store) ≡ Held t n → (s + m ≤ t) ⊎ (t + n ≤ s)
+    → area_found areas a (length store) ≡ Some (record { start = s; length = m }) → area_found areas b (length store) ≡ Some (record { start = t; length = n }) → (s + m ≤ t) ⊎ (t + n ≤ s)
 areas_apart a b areas store sound other s m t n ea eb =
     let x = stands areas a (length store) s m ea in
     let y = stands areas b (length store) t n eb in

@@ -11,7 +11,9 @@ use lib.Seq.{drop-cons}
 use borrow.Author.Tests.{ltb-true, ltb-false}
 use Rattle.promise.specs.Rules.{pick}
 use Rattle.promise.proofs.Outcome.{by_test, on_test}
-use Rattle.mock_areas.specs.Slots.{first_at}
+use Rattle.mock_areas.specs.Slots.{slot_count, first_at, among_slots}
+use Rattle.std.specs.Prelude.{position}
+use Rattle.std.specs.List.{position_or_len}
 
 module _ {A : Type 0} (test : A → Bool) (xs : List A) (i : ℕ) (d : A) (inside : i < length xs) where
   pub first_here : test (get_or xs i d) ≡ true → i + first_at test (drop i xs) ≡ i
@@ -71,3 +73,14 @@ module _ {A : Type 0} (test : A → Bool) (d : A) where
       (λ t. let z : true ≡ false = sym passes ∙ before_fails xs k (ltb-true k (first_at test xs) t) in
       let n : ◌≡◌ {A = ℕ} 0 1 = cc in absurd (omega arith))
       (λ t. ltb-false k (first_at test xs) t)
+
+-- the search by std's words
+searched : {A : Type 0} (test : A → Bool) (xs : List A) → position_or_len test xs ≡ first_at test xs
+unfolding first_at
+searched test [] = refl
+searched test (x ∷ xs) = on_test (test x) (λ t. rw t refl) (λ t. rw (t, searched test xs) (omega arith))
+
+pub found_among : {A : Type 0} (test : A → Bool) (xs : List A) → length xs ≡ slot_count → position test xs ≡ among_slots (first_at test xs)
+unfolding among_slots
+found_among test xs eight =
+    rw (searched test xs, eight) (on_test (ltb (first_at test xs) slot_count) (λ t. rw t refl) (λ t. rw t refl))

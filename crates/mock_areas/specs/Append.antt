@@ -1,5 +1,5 @@
 -- A write to an area.
-use Rattle.std.specs.Prelude.{ℕ, ◌+◌, ◌*◌, ◌≡◌, true, List, [], ◌∷◌, leb, ltb, length, set}
+use Rattle.std.specs.Prelude.{ℕ, ◌+◌, ◌*◌, ◌≡◌, List, [], ◌∷◌, leb, ltb, length, set}
 use Rattle.promise.specs.Told.{Told, given, refused}
 use Rattle.promise.specs.Rules.{Rule, rule, or_refuse}
 use Rattle.promise.specs.Over.{over}
@@ -7,9 +7,12 @@ use Rattle.mock_areas.specs.Slots.{slot_count, slot_size, slot_at, place}
 use Rattle.mock_areas.specs.declared.Areas.{Areas}
 use Rattle.mock_areas.specs.declared.Place.{Place}
 use Rattle.mock_areas.specs.declared.AreaStep.{AreaStep}
-use Rattle.mock_areas.specs.declared.AreaAnswer.{AreaAnswer}
-use Rattle.mock_areas.specs.declared.AreaAnswer.TheVariants.{Written, NoSlot, SlotFull}
 use Rattle.promise.specs.Does.{Comes}
+use Rattle.std.specs.Prelude.{Result}
+use Rattle.mock_areas.specs.declared.AreaError.{AreaError}
+use Rattle.std.specs.declared.result.Result.TheVariants.{Ok, Err}
+use Rattle.mock_areas.specs.declared.AreaError.TheVariants as area_error
+use Rattle.std.specs.declared.option.Option.TheVariants.{Some}
 
 -- what is told, and the slots and the store afterwards
 abbrev pub Appending : Type 0
@@ -17,7 +20,7 @@ Appending = Comes Unit Areas
 
 -- the slot is held by the number, with so many bytes
 unfoldable pub held_by : Areas → ℕ → ℕ → ℕ → Areas
-held_by areas at number used = record { slots = set areas.slots at (record { held = true; number = number; used = used }) }
+held_by areas at number used = record { slots = set areas.slots at (Some (record { number = number; used = used })) }
 
 -- 58: new area number, 8 held; 59: held plus new above the slot
 unfoldable pub append_rules : Place → ℕ → ℕ → List Rule
@@ -41,10 +44,15 @@ append_step areas number bytes store =
     or_refuse (refused_append areas store) (append_rules (place number areas.slots) (length bytes) (length store))
     (appended_at areas (place number areas.slots) number bytes store)
 
-unfoldable pub area_told : AreaAnswer → Told Unit
-area_told Written = given tt
-area_told NoSlot = refused 58 []
-area_told SlotFull = refused 59 []
+-- 58 and 59
+abbrev pub area_error_number : AreaError → ℕ
+area_error_number area_error.NoSlot = 58
+area_error_number area_error.SlotFull = 59
+
+unfoldable pub area_told : Result Unit AreaError → Told Unit
+area_told (Ok done) = given tt
+area_told (Err area_error.NoSlot) = refused 58 []
+area_told (Err area_error.SlotFull) = refused 59 []
 
 -- an append that answers r and leaves the store `after`
 pub record AppendMeets (r : AreaStep) (after : List ℕ) (a : Appending) : Type 0 where
@@ -54,5 +62,5 @@ pub record AppendMeets (r : AreaStep) (after : List ℕ) (a : Appending) : Type 
 
 -- slot k is held by the number from then on, with so many bytes, and every other slot is as it was
 pub record TakesSlot (k number used : ℕ) (before after : Areas) : Type 0 where
-  pub own : slot_at after k ≡ record { held = true; number = number; used = used }
+  pub own : slot_at after k ≡ Some (record { number = number; used = used })
   pub others : (i : ℕ) → (i ≡ k → ⊥) → slot_at after i ≡ slot_at before i

@@ -3,35 +3,27 @@
 #![tactic(auto)]
 
 ghost use Rattle.std.specs.Prelude.{◌≡◌, ◌+◌, ◌<◌, leb, length};
-ghost use Rattle.mock_areas.specs.Slots.{passes, first_at, place, fresh_areas, area_found};
-ghost use Rattle.promise.specs.Told.{number};
-ghost use Rattle.mock_areas.specs.Append.{held_by, AppendMeets, append_step, area_told};
+ghost use Rattle.mock_areas.specs.Slots.{slot_used, passes, first_at, place, among_slots, place_among, fresh_areas, area_found};
+ghost use Rattle.mock_areas.specs.Append.{held_by, AppendMeets, append_step, area_error_number};
 
-use lent_bytes;
+use rule_number::RuleNumber;
 
 const SLOTS: usize = 8;
 
-// A slot: while it is held, by which number, and how many of its bytes are used. A free slot's number and count mean nothing.
-#[derive(Clone, Copy)]
+// What a slot is held by: an area's number, and how many of the slot's bytes are used.
+#[derive(Clone, Copy, Debug, PartialEq, Eq)]
 pub struct Area {
-    pub held: bool,
     pub number: u16,
     pub used: usize,
 }
 
+// The slots, of which a free one is none.
 #[derive(Clone, Copy)]
 pub struct Areas {
-    pub slots: [Area; 8],
+    pub slots: [Option<Area>; 8],
 }
 
-// What a slot is looked for by.
-#[derive(Clone, Copy)]
-pub enum Wanted {
-    Free,
-    Number(u16),
-}
-
-// Where an area's next bytes go. No slot is as the slots' number.
+// Where an area's next bytes go: behind those that are used in its slot.
 #[derive(Clone, Copy)]
 pub struct Place {
     pub slot: usize,
@@ -39,163 +31,129 @@ pub struct Place {
 }
 
 // Where an area's bytes stand in the store.
-#[derive(Clone, Copy)]
-pub enum AreaFound {
-    NotHeld,
-    Held { start: usize, length: usize },
+#[derive(Clone, Copy, Debug, PartialEq, Eq)]
+pub struct Stretch {
+    pub start: usize,
+    pub length: usize,
 }
 
-#[derive(Clone, Copy)]
-pub enum AreaAnswer {
-    Written,
+#[derive(Clone, Copy, Debug, PartialEq, Eq)]
+pub enum AreaError {
     // 58
     NoSlot,
     // 59
     SlotFull,
 }
 
+impl RuleNumber for AreaError {
+    ghost rule_number = { area_error_number };
+
+    fn number(self) -> u8 {
+        match self {
+            AreaError::NoSlot => 58,
+            AreaError::SlotFull => 59,
+        }
+    }
+}
+
 #[derive(Clone, Copy)]
 pub struct AreaStep {
-    pub answer: AreaAnswer,
+    pub answer: Result<(), AreaError>,
     pub areas: Areas,
 }
 
-impl AreaAnswer {
-    // 0 where the bytes were written.
-    pub fn number(self) -> u8
-        ensures { result ≡ number (area_told self) }
-    {
-        match self {
-            AreaAnswer::Written => 0,
-            AreaAnswer::NoSlot => 58,
-            AreaAnswer::SlotFull => 59,
-        }
-    }
+// Whether a slot is held by this number, or free where none is wanted.
+#[tactic(auto, unfolding(crate::specs::Slots::passes))]
+fn fits(slot: Option<Area>, wanted: Option<u16>) -> bool
+    ensures { result ≡ passes wanted slot }
+{
+    slot.map(|area| area.number) == wanted
 }
 
-fn fits(area: Area, wanted: Wanted) -> bool
-    ensures { result ≡ passes wanted area }
+#[tactic(auto, unfolding(crate::specs::Slots::slot_used))]
+fn used(slot: Option<Area>) -> usize
+    ensures { result ≡ slot_used slot }
 {
-    match wanted {
-        Wanted::Free => !area.held,
-        Wanted::Number(number) => {
-            if !area.held {
-                return false;
-            }
-            area.number == number
-        }
-    }
+    slot.map_or(0, |area| area.used)
 }
 
-// The first slot that is as wanted, or the slots' number.
-fn first(slots: [Area; 8], wanted: Wanted) -> usize
-    ensures value { result ≡ first_at (passes wanted) slots }
-    ensures slots_len { length slots ≡ 8 }
+// The first slot that is as wanted.
+fn first(slots: [Option<Area>; 8], wanted: Option<u16>) -> Option<usize>
+    ensures { result ≡ among_slots (first_at (passes wanted) slots) }
 {
-    let mut i = 0;
-    while i < SLOTS {
-        if fits(slots[i], wanted) {
-            return i;
-        }
-        i += 1;
-    }
-    SLOTS
+    slots.iter().position(|&slot| fits(slot, wanted))
 }
 
 // Whether `more` bytes fit behind those that are used.
 fn has_room(size: usize, used: usize, more: usize) -> bool
     ensures { result ≡ leb (used + more) size }
 {
-    if size < used {
-        return false;
-    }
-    if size - used < more {
-        return false;
-    }
-    true
+    used <= size && more <= size - used
 }
 
 impl Areas {
     pub fn new() -> Areas
         ensures { result ≡ fresh_areas }
     {
-        let free = Area {
-            held: false,
-            number: 0,
-            used: 0,
-        };
-        Areas { slots: [free; 8] }
+        Areas { slots: [None; 8] }
     }
 
-    fn place(self, number: u16) -> Place
-        ensures { result ≡ place number self.slots }
+    fn place(self, number: u16) -> Option<Place>
+        ensures { result ≡ place_among (place number self.slots) }
     {
         let slots = self.slots;
-        let at = first(slots, Wanted::Number(number));
-        if at < SLOTS {
-            let area = slots[at];
-            return Place {
-                slot: at,
-                used: area.used,
-            };
+        if let Some(slot) = first(slots, Some(number)) {
+            return Some(Place {
+                slot,
+                used: used(slots[slot]),
+            });
         }
-        Place {
-            slot: first(slots, Wanted::Free),
-            used: 0,
-        }
+        let slot = first(slots, None)?;
+        Some(Place { slot, used: 0 })
     }
 
-    pub fn find(self, number: u16, store_length: usize) -> AreaFound
+    pub fn find(self, number: u16, store_length: usize) -> Option<Stretch>
         ensures { result ≡ area_found self number store_length }
     {
         let slots = self.slots;
-        let at = first(slots, Wanted::Number(number));
-        if at < SLOTS {
-            let area = slots[at];
-            return AreaFound::Held {
-                start: at * (store_length / SLOTS),
-                length: area.used,
-            };
-        }
-        AreaFound::NotHeld
+        let at = first(slots, Some(number))?;
+        Some(Stretch {
+            start: at * (store_length / SLOTS),
+            length: used(slots[at]),
+        })
     }
 
-    fn hold(self, at: usize, number: u16, used: usize) -> Areas
+    #[tactic(auto, unfolding(crate::specs::Append::held_by))]
+    fn hold(mut self, at: usize, number: u16, used: usize) -> Areas
         requires { at < 8 }
         ensures { result ≡ held_by self at number used }
     {
-        let mut slots = self.slots;
-        slots[at] = Area {
-            held: true,
-            number: number,
-            used: used,
-        };
-        Areas { slots: slots }
+        self.slots[at] = Some(Area { number, used });
+        self
     }
 
     pub fn append(self, number: u16, data: &[u8], store: &mut [u8]) -> AreaStep
         ensures { AppendMeets result store.new (append_step self number «data».now store.old) }
     {
-        let place = self.place(number);
-        let slot = place.slot;
-        let used = place.used;
-        if SLOTS <= slot {
+        let Some(place) = self.place(number) else {
             return AreaStep {
-                answer: AreaAnswer::NoSlot,
+                answer: Err(AreaError::NoSlot),
                 areas: self,
             };
-        }
+        };
+        let slot = place.slot;
+        let used = place.used;
         let size = store.len() / SLOTS;
         if !has_room(size, used, data.len()) {
             return AreaStep {
-                answer: AreaAnswer::SlotFull,
+                answer: Err(AreaError::SlotFull),
                 areas: self,
             };
         }
         let at = slot * size + used;
-        lent_bytes::copy(data, &mut store[at..]);
+        store[at..at + data.len()].copy_from_slice(data);
         AreaStep {
-            answer: AreaAnswer::Written,
+            answer: Ok(()),
             areas: self.hold(slot, number, used + data.len()),
         }
     }

@@ -11,7 +11,7 @@ use Rattle.promise.specs.Rules.{or_refuse, pick}
 use Rattle.protocol_bytes.specs.Sector.{sector_size}
 use Rattle.mock_base.specs.Flash.{most_flash_sectors, flash_rules, flash_sectors, fits_in, range_in, range_told}
 use Rattle.mock_base.specs.declared.range.FlashRange.{FlashRange}
-use Rattle.mock_base.specs.declared.range.RangeAnswer.TheVariants.{Within, OutOfRange}
+use Rattle.std.specs.declared.result.Result.TheVariants.{Ok, Err}
 
 -- P14: of 128 sectors, 128+0 fits, 128+1 doesn't
 pub p14 : (fits_in 128 128 0 ≡ true) × (fits_in 128 128 1 ≡ false)
@@ -43,12 +43,12 @@ by_miss true asked e = let z : ◌≡◌ {A = ℕ} 0 1 = cc in absurd (omega ari
 by_miss false asked e = refl
 
 module _ (sectors first count : ℕ) where
-  pub within : (range : FlashRange) → range_in sectors first count ≡ range_told (Within range)
+  pub within : (range : FlashRange) → range_in sectors first count ≡ range_told (Ok range)
       → (fits_in sectors first count ≡ true) × (range ≡ record { first = first; count = count })
   unfolding range_in range_told or_refuse
   within range e = by_fit (fits_in sectors first count) (record { first = first; count = count }) range e
 
-  pub outside : range_in sectors first count ≡ range_told OutOfRange → fits_in sectors first count ≡ false
+  pub outside : range_in sectors first count ≡ range_told (Err (record {})) → fits_in sectors first count ≡ false
   unfolding range_in range_told or_refuse
   outside e = by_miss (fits_in sectors first count) (record { first = first; count = count }) e
 

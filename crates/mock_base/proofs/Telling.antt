@@ -9,9 +9,8 @@ use Rattle.mock_base.specs.Told.{error_told, error_values, result_told, inner_si
 use Rattle.mock_base.specs.Flash.{size_told, size_done}
 use Rattle.mock_base.specs.declared.error.MockTransportError.{MockTransportError}
 use Rattle.mock_base.specs.declared.error.MockTransportError.TheVariants.{InvalidTransferLength, UnsupportedControl, InvalidReset, UnknownCommand, UnexpectedRead, UnexpectedWrite, CommandBlockError, OutOfRange, NoSlot, SlotFull, FlashSize, TooManySectors, ZeroBlockSize, UnalignedErase, StoreLength}
-use Rattle.mock_base.specs.declared.error.MockResult.TheVariants.{Done, Refused}
-use Rattle.mock_base.specs.declared.range.FlashSectors.{FlashSectors}
-use Rattle.mock_base.specs.declared.range.FlashSectors.TheVariants as size
+use Rattle.std.specs.declared.result.Result.TheVariants.{Ok, Err}
+use Rattle.std.specs.Prelude.{Result, MatchResult, IsOkAnd}
 
 -- beside zeros no refusal tells a signature but zeros
 beside_error : (error : MockTransportError) → signature_beside (error_told error no_signature) ≡ no_signature
@@ -36,21 +35,18 @@ beside_error UnalignedErase = refl
 beside_error StoreLength = refl
 
 pub answers_error : (error : MockTransportError) (told : Told Unit) → error_told error no_signature ≡ told
-    → Answers (record { result = Refused error; signature = no_signature }) told
+    → Answers (record { result = Err error; signature = no_signature }) told
 unfolding result_told
 answers_error error told e = record { tells = e; signature = sym (beside_error error) ∙ ap signature_beside e }
 
-pub answers_done : Answers (record { result = Done; signature = no_signature }) (given tt)
+pub answers_done : Answers (record { result = Ok tt; signature = no_signature }) (given tt)
 unfolding result_told signature_beside
 answers_done = record { tells = refl; signature = refl }
 
--- the answers to a length that is whole sectors, and to one that is not
-module _ (found : FlashSectors) where
-  pub size_done_lem : (sectors : ℕ) → found ≡ size.Whole sectors → Answers (record { result = Done; signature = no_signature }) (size_done found)
-  unfolding size_done size_told and_then
-  size_done_lem sectors e = rw e answers_done
-
-  pub size_refused : (error : MockTransportError) → found ≡ size.Refused error
-      → Answers (record { result = Refused error; signature = no_signature }) (size_done found)
-  unfolding size_done size_told and_then
-  size_refused error e = rw e (answers_error error (error_told error no_signature) refl)
+-- the answer to a length that is whole sectors, and to one that is not
+pub size_answered : (P : ℕ → Unit → Type 0) (found : Result ℕ MockTransportError) (answer : Result Unit MockTransportError)
+    → MatchResult found (λ x. IsOkAnd answer (P x)) (λ e. answer ≡ Err e) → Answers (record { result = answer; signature = no_signature }) (size_done found)
+unfolding size_done size_told and_then
+size_answered P (Ok sectors) (Ok done) e = answers_done
+size_answered P (Ok sectors) (Err error) e = absurd e
+size_answered P (Err error) answer e = rw e (answers_error error (error_told error no_signature) refl)

@@ -1,10 +1,11 @@
--- Number and values tell an answer whole, so two answers allowed by one contract are equal.
+-- Number and values tell an answer whole, so two answers allowed by one contract are equal; and what an answer tells has its number.
 use Prim.Native.Nat.{ℕ}
 use mathlib.Core.Path.{◌≡◌, refl, ap, ap₂, sym, ◌∙◌}
 use mathlib.Core.List.{List}
 use lib.Dec.{eqb}
 use lib.ListN.{get_or}
-use Rattle.promise.specs.Told.{Told, given, refused}
+use Rattle.rule_number.specs.Number.{number_of}
+use Rattle.promise.specs.Told.{Told, given, refused, number}
 use Rattle.promise.specs.Rules.{pick}
 use Rattle.protocol_codes.specs.Reading.{code_of}
 use Rattle.protocol_codes.proofs.Back.{code_back}
@@ -14,20 +15,15 @@ use Rattle.protocol.specs.CommandMeets.{command_error_number, command_error_valu
 use Rattle.protocol.specs.declared.CommandBlockParseError.{CommandBlockParseError}
 use Rattle.protocol.specs.declared.CommandBlockParseError.TheVariants.{InvalidSignature, UnknownCommandCode, UnknownFlags, InvalidLength}
 use Rattle.protocol_bytes.specs.Signature.{no_signature}
-use Rattle.mock_base.specs.Flash.{size_told, range_told}
-use Rattle.mock_base.specs.declared.range.FlashSectors.{FlashSectors}
-use Rattle.mock_base.specs.declared.range.FlashSectors.TheVariants.{Whole}
-use Rattle.mock_base.specs.declared.range.FlashSectors.TheVariants as size
+use Rattle.mock_base.specs.Flash.{size_told, out_of_range_number, range_told}
 use Rattle.mock_base.specs.declared.range.FlashRange.{FlashRange}
-use Rattle.mock_base.specs.declared.range.RangeAnswer.{RangeAnswer}
-use Rattle.mock_base.specs.declared.range.RangeAnswer.TheVariants.{Within}
-use Rattle.mock_base.specs.declared.range.RangeAnswer.TheVariants as fit
 use Rattle.mock_base.specs.Told.{error_number, error_values, result_told, Answers}
 use Rattle.mock_base.specs.declared.error.MockTransportError.{MockTransportError}
 use Rattle.mock_base.specs.declared.error.MockTransportError.TheVariants.{InvalidTransferLength, UnsupportedControl, InvalidReset, UnknownCommand, UnexpectedRead, UnexpectedWrite, CommandBlockError, OutOfRange, NoSlot, SlotFull, FlashSize, TooManySectors, ZeroBlockSize, UnalignedErase, StoreLength}
-use Rattle.mock_base.specs.declared.error.MockResult.{MockResult}
-use Rattle.mock_base.specs.declared.error.MockResult.TheVariants.{Done, Refused}
 use Rattle.mock_base.specs.declared.error.MockAnswer.{MockAnswer}
+use Rattle.mock_base.specs.declared.range.OutOfRange.{OutOfRange as Outside}
+use Rattle.std.specs.Prelude.{Result}
+use Rattle.std.specs.declared.result.Result.TheVariants.{Ok, Err}
 
 code_in : Told CommandCode → CommandCode
 code_in (given code) = code
@@ -76,41 +72,57 @@ error_from_lem ZeroBlockSize signature = refl
 error_from_lem UnalignedErase signature = refl
 error_from_lem StoreLength signature = refl
 
-unfoldable pub result_from : Told Unit → MockResult
-result_from (given done) = Done
-result_from (refused number values) = Refused (error_in number values)
+unfoldable pub result_from : Told Unit → Result Unit MockTransportError
+result_from (given done) = Ok tt
+result_from (refused number values) = Err (error_in number values)
 
-pub result_from_lem : (result : MockResult) (signature : List ℕ) → result_from (result_told result signature) ≡ result
+pub result_from_lem : (result : Result Unit MockTransportError) (signature : List ℕ) → result_from (result_told result signature) ≡ result
 unfolding result_from result_told
-result_from_lem Done signature = refl
-result_from_lem (Refused error) signature = ap Refused (error_from_lem error signature)
+result_from_lem (Ok done) signature = refl
+result_from_lem (Err error) signature = ap Err (error_from_lem error signature)
 
 pub answers_unique : (a b : MockAnswer) (told : Told Unit) → Answers a told → Answers b told → a ≡ b
 answers_unique a b told m n =
     let results : a.result ≡ b.result =
     sym (result_from_lem a.result a.signature) ∙ ap result_from (m.tells ∙ sym n.tells) ∙ result_from_lem b.result b.signature in
-    ap₂ (λ (r : MockResult) (s : List ℕ). record { result = r; signature = s }) results (m.signature ∙ sym n.signature)
+    ap₂ (λ (r : Result Unit MockTransportError) (s : List ℕ). record { result = r; signature = s }) results (m.signature ∙ sym n.signature)
 
-unfoldable pub size_from : Told ℕ → FlashSectors
-size_from (given sectors) = Whole sectors
-size_from (refused number values) = size.Refused (error_in number values)
+unfoldable pub size_from : Told ℕ → Result ℕ MockTransportError
+size_from (given sectors) = Ok sectors
+size_from (refused number values) = Err (error_in number values)
 
-pub size_from_lem : (size : FlashSectors) → size_from (size_told size) ≡ size
+pub size_from_lem : (size : Result ℕ MockTransportError) → size_from (size_told size) ≡ size
 unfolding size_from size_told
-size_from_lem (Whole sectors) = refl
-size_from_lem (size.Refused error) = ap size.Refused (error_from_lem error no_signature)
+size_from_lem (Ok sectors) = refl
+size_from_lem (Err error) = ap Err (error_from_lem error no_signature)
 
-pub size_unique : (a b : FlashSectors) (told : Told ℕ) → size_told a ≡ told → size_told b ≡ told → a ≡ b
+pub size_unique : (a b : Result ℕ MockTransportError) (told : Told ℕ) → size_told a ≡ told → size_told b ≡ told → a ≡ b
 size_unique a b told m n = sym (size_from_lem a) ∙ ap size_from (m ∙ sym n) ∙ size_from_lem b
 
-range_from : Told FlashRange → RangeAnswer
-range_from (given range) = Within range
-range_from (refused number values) = fit.OutOfRange
+range_from : Told FlashRange → Result FlashRange Outside
+range_from (given range) = Ok range
+range_from (refused number values) = Err (record {})
 
-range_from_lem : (answer : RangeAnswer) → range_from (range_told answer) ≡ answer
+range_from_lem : (answer : Result FlashRange Outside) → range_from (range_told answer) ≡ answer
 unfolding range_from range_told
-range_from_lem (Within range) = refl
-range_from_lem fit.OutOfRange = refl
+range_from_lem (Ok range) = refl
+range_from_lem (Err out) = refl
 
-pub range_unique : (a b : RangeAnswer) (told : Told FlashRange) → range_told a ≡ told → range_told b ≡ told → a ≡ b
+pub range_unique : (a b : Result FlashRange Outside) (told : Told FlashRange) → range_told a ≡ told → range_told b ≡ told → a ≡ b
 range_unique a b told m n = sym (range_from_lem a) ∙ ap range_from (m ∙ sym n) ∙ range_from_lem b
+
+-- the number that the rules have for each of these answers
+pub result_number : (result : Result Unit MockTransportError) (signature : List ℕ) → number (result_told result signature) ≡ number_of error_number result
+unfolding number result_told
+result_number (Ok done) signature = refl
+result_number (Err error) signature = refl
+
+pub size_number : (size : Result ℕ MockTransportError) → number (size_told size) ≡ number_of error_number size
+unfolding number size_told
+size_number (Ok sectors) = refl
+size_number (Err error) = refl
+
+pub range_number : (answer : Result FlashRange Outside) → number (range_told answer) ≡ number_of out_of_range_number answer
+unfolding number range_told
+range_number (Ok range) = refl
+range_number (Err out) = refl

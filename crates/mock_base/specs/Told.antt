@@ -7,9 +7,9 @@ use Rattle.protocol_bytes.specs.Signature.{no_signature, signature_in}
 use Rattle.protocol.specs.CommandMeets.{command_error_number, command_error_values}
 use Rattle.mock_base.specs.declared.error.MockTransportError.{MockTransportError}
 use Rattle.mock_base.specs.declared.error.MockTransportError.TheVariants.{InvalidTransferLength, UnsupportedControl, InvalidReset, UnknownCommand, UnexpectedRead, UnexpectedWrite, CommandBlockError, OutOfRange, NoSlot, SlotFull, FlashSize, TooManySectors, ZeroBlockSize, UnalignedErase, StoreLength}
-use Rattle.mock_base.specs.declared.error.MockResult.{MockResult}
-use Rattle.mock_base.specs.declared.error.MockResult.TheVariants.{Done, Refused}
 use Rattle.mock_base.specs.declared.error.MockAnswer.{MockAnswer}
+use Rattle.std.specs.Prelude.{Result}
+use Rattle.std.specs.declared.result.Result.TheVariants.{Ok, Err}
 
 abbrev pub error_number : MockTransportError → ℕ
 error_number (InvalidTransferLength expected actual) = 50
@@ -49,9 +49,9 @@ error_values StoreLength signature = []
 abbrev pub error_told : {A : Type 0} → MockTransportError → List ℕ → Told A
 error_told error signature = refused (error_number error) (error_values error signature)
 
-unfoldable pub result_told : MockResult → List ℕ → Told Unit
-result_told Done signature = given tt
-result_told (Refused error) signature = error_told error signature
+unfoldable pub result_told : Result Unit MockTransportError → List ℕ → Told Unit
+result_told (Ok done) signature = given tt
+result_told (Err error) signature = error_told error signature
 
 -- the signature that 56 tells, zeros where anything else is told
 unfoldable pub inner_signature : ℕ → List ℕ → List ℕ

@@ -1,5 +1,5 @@
 // Which variety of flash a stand-in device has.
-#[derive(Clone, Copy)]
+#[derive(Clone, Copy, Debug, PartialEq, Eq)]
 pub enum Variety {
     // the Rust's: a write replaces what stood there
     First,

@@ -17,23 +17,22 @@ pub struct MockDeviceConfig {
     pub flash_info_extra: [u8; 5],
 }
 
-impl MockDeviceConfig {
+impl Default for MockDeviceConfig {
+    ghost is_default = { λ config. config ≡ default_config };
+
     #[tactic(auto, unfolding(crate::specs::Config::default_config))]
-    pub fn default() -> MockDeviceConfig
-        ensures { result ≡ default_config }
-    {
+    fn default() -> MockDeviceConfig {
         MockDeviceConfig {
-            chip_info: [
-                b'r', b'o', b'c', b'k', b'u', b's', b'b', b'-', b'm', b'o', b'c', b'k', b'-', b'v',
-                b'1', b'!',
-            ],
-            flash_id: [b'M', b'O', b'C', b'K', b'!'],
+            chip_info: *b"rockusb-mock-v1!",
+            flash_id: *b"MOCK!",
             capability: [0x09, 0, 0, 0, 0, 0, 0, 0],
             block_size_sectors: DEFAULT_BLOCK_SIZE_SECTORS,
-            flash_info_extra: [0, 0, 0, 0, 0],
+            flash_info_extra: [0; 5],
         }
     }
+}
 
+impl MockDeviceConfig {
     // How many sectors the default's flash has.
     pub fn default_sectors() -> usize
         ensures { result ≡ default_sectors }

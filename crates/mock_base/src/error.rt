@@ -1,12 +1,11 @@
 // The stand-in's answers: done, or one of the refusals 50 to 63 and 65.
-ghost use Rattle.std.specs.Prelude.{◌≡◌, List, ℕ};
-ghost use Rattle.promise.specs.Told.{number};
-ghost use Rattle.mock_base.specs.Told.{error_number, result_told};
+ghost use Rattle.mock_base.specs.Told.{error_number};
 
 use protocol::CommandBlockParseError;
 use protocol_codes::CommandCode;
+use rule_number::RuleNumber;
 
-#[derive(Clone, Copy)]
+#[derive(Clone, Copy, Debug, PartialEq, Eq)]
 pub enum MockTransportError {
     // 50
     InvalidTransferLength {
@@ -48,32 +47,19 @@ pub enum MockTransportError {
 }
 
 #[derive(Clone, Copy)]
-pub enum MockResult {
-    Done,
-    Refused(MockTransportError),
-}
-
-#[derive(Clone, Copy)]
 pub struct MockAnswer {
-    pub result: MockResult,
+    pub result: Result<(), MockTransportError>,
     // the four bytes of a command's invalid signature, zeros otherwise
     pub signature: [u8; 4],
 }
 
-impl MockTransportError {
-    pub fn number(self) -> u8
-        ensures { result ≡ error_number self }
-    {
+impl RuleNumber for MockTransportError {
+    ghost rule_number = { error_number };
+
+    fn number(self) -> u8 {
         match self {
-            MockTransportError::InvalidTransferLength {
-                expected: _,
-                actual: _,
-            } => 50,
-            MockTransportError::UnsupportedControl {
-                request_type: _,
-                request: _,
-                value: _,
-            } => 51,
+            MockTransportError::InvalidTransferLength { .. } => 50,
+            MockTransportError::UnsupportedControl { .. } => 51,
             MockTransportError::InvalidReset(_) => 52,
             MockTransportError::UnknownCommand(_) => 53,
             MockTransportError::UnexpectedRead => 54,
@@ -87,19 +73,6 @@ impl MockTransportError {
             MockTransportError::ZeroBlockSize => 62,
             MockTransportError::UnalignedErase => 63,
             MockTransportError::StoreLength => 65,
-        }
-    }
-}
-
-impl MockResult {
-    // 0 where the call was done.
-    #[tactic(auto, unfolding(promise::specs::Told::number, crate::specs::Told::result_told))]
-    pub fn number(self) -> u8
-        ensures { (signature : List ℕ) → result ≡ number (result_told self signature) }
-    {
-        match self {
-            MockResult::Done => 0,
-            MockResult::Refused(error) => error.number(),
         }
     }
 }

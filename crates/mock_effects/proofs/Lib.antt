@@ -1,7 +1,6 @@
--- `Filling` has the laws of a fill that is under way, `Programming` those of clearing bits, `Lengths` what the length of a lent flash tells, `Frames`
+-- `Programming` has the laws of clearing bits, `Lengths` what the length of a lent flash tells, `Frames`
 -- what a bulk call leaves alone, `ReadBack` that what was written and told success is read, `Cells` which bits a byte of NOR has afterwards, `Unique`
 -- that answers allowed by one contract are equal, `Wrong` programs that the contracts rule out.
-pub mod Filling
 pub mod Programming
 pub mod Lengths
 pub mod Frames

@@ -6,10 +6,9 @@ use mathlib.Core.List.{List, [], ◌∷◌, ◌++◌}
 use native.Mathlib.Numerals.{add-one}
 use native.Mathlib.Omega.{arith}
 use lib.Bits.{bit_and, and_comm, and_mask}
-use lib.ListN.{length, take, drop, set, get_or, replicate, length-append, length-take, length-drop, drop_of_length-le}
+use lib.ListN.{length, take, drop, set, get_or, replicate, length-append, length-take, length-drop}
 use lib.Seq.{drop-cons, set_at, get_or_at, take_all, take-length, ext_get_or}
 use borrow.Rule.Slice.PartMut.{put_mid}
-use borrow.Author.Tests.{eq-eqb, ne_eqb}
 use Rattle.promise.specs.Rules.{pick}
 use Rattle.promise.specs.Bytes.{front, AreBytes}
 use Rattle.promise.specs.Over.{over}
@@ -17,6 +16,9 @@ use Rattle.promise.proofs.Copied.{copied}
 use Rattle.protocol_bytes.specs.Signature.{same}
 use Rattle.protocol_bytes.proofs.Same.{same_equal, same_itself, same_differs}
 use Rattle.protocol_codes.specs.declared.Status.TheVariants.{SUCCESS, FAILED}
+use Rattle.promise.proofs.Outcome.{on_test}
+use Rattle.std.specs.List.{list_all, zip}
+use lib.Dec.{eqb}
 use Rattle.mock_effects.specs.Effects.{erased, programmed, cells_told}
 
 pub length_programmed : (bytes old : List ℕ) → length (programmed bytes old) ≡ length bytes
@@ -29,26 +31,17 @@ length_programmed (b ∷ bytes) (o ∷ old) = ap suc (length_programmed bytes ol
 abbrev pub took : List ℕ → List ℕ → Bool
 took bytes old = same (programmed bytes old) bytes
 
-module _ (i : ℕ) (asked old : List ℕ) (here : i < length asked) (fits : length asked ≤ length old) where
-  abbrev cell : ℕ
-  cell = bit_and (get_or old i 0) (get_or asked i 0)
+-- each cell beside the byte that is asked of it keeps exactly that byte
+abbrev pub keeps_byte : ℕ × ℕ → Bool
+keeps_byte p = eqb (bit_and p.0 p.1) p.1
 
-  -- a byte that is the one asked leaves it to the rest, and any other decides
-  pub took_next : cell ≡ get_or asked i 0 → took (drop i asked) (drop i old) ≡ took (drop (i + 1) asked) (drop (i + 1) old)
-  unfolding programmed same
-  took_next e =
-      let there : i < length old = omega arith in
-      rw (add-one, drop-cons asked i 0 here, drop-cons old i 0 there, eq-eqb cell (get_or asked i 0) e) refl
-
-  pub took_not : (cell ≡ get_or asked i 0 → ⊥) → took (drop i asked) (drop i old) ≡ false
-  unfolding programmed same
-  took_not e =
-      let there : i < length old = omega arith in
-      rw (drop-cons asked i 0 here, drop-cons old i 0 there, ne_eqb cell (get_or asked i 0) e) refl
-
-pub took_all : (i : ℕ) (asked old : List ℕ) → length asked ≤ i → took (drop i asked) (drop i old) ≡ true
+pub all_took : (old asked : List ℕ) → length asked ≤ length old → list_all keeps_byte (zip old asked) ≡ took asked old
 unfolding programmed same
-took_all i asked old past = rw (drop_of_length-le asked past) refl
+all_took [] [] h = refl
+all_took (o ∷ old) [] h = refl
+all_took [] (b ∷ asked) h = absurd (omega arith)
+all_took (o ∷ old) (b ∷ asked) h =
+    on_test (eqb (bit_and o b) b) (λ t. rw t (all_took old asked (omega arith))) (λ t. rw t refl)
 
 -- a part of which the first i bytes are programmed
 abbrev pub so_far : ℕ → List ℕ → List ℕ → List ℕ

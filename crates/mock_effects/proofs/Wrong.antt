@@ -24,7 +24,6 @@ use Rattle.mock_table.specs.Ways.{stored_by, moved_by, switches, switched}
 use Rattle.mock_table.specs.Table.{sector_turn, zero_length_turn, start_turn, write_io_turn, write_row, status_turn, read_row}
 use Rattle.mock_table.specs.declared.session.CommandState.{CommandState}
 use Rattle.mock_table.specs.declared.session.CommandState.TheVariants.{None, IO, Status}
-use Rattle.mock_table.specs.declared.session.LastReset.{LastReset}
 use Rattle.mock_table.specs.declared.session.Session.{Session}
 use Rattle.mock_base.specs.declared.cells.Variety.{Variety}
 use Rattle.mock_base.specs.declared.cells.Variety.TheVariants.{Nor}
@@ -32,6 +31,8 @@ use Rattle.mock_base.specs.declared.config.MockDeviceConfig.{MockDeviceConfig}
 use Rattle.mock_effects.specs.Effects.{programmed, cells_told, flash_after, pending_after, reply_bytes, buffer_after}
 use Rattle.mock_effects.specs.Steps.{Step, failed, pend, pended, write_step_of, write_step_by, write_step, read_step_of, read_step_by, read_step, StepMeets}
 use Rattle.mock_effects.specs.declared.SessionStep.{SessionStep}
+use Rattle.std.specs.Prelude.{Option}
+use Rattle.protocol_codes.specs.declared.ResetOpcode.{ResetOpcode}
 
 -- what is told by number, and the transaction: 0 none, 1 awaiting data, 2 awaiting status
 abbrev told : SessionStep → ℕ
@@ -55,7 +56,7 @@ ones = replicate 512 1
 abbrev command : CommandBlock
 command = write_lba_command 1 0 1
 
-module _ (last : LastReset) where
+module _ (last : Option ResetOpcode) where
   -- `write_step`: every range refused
   pub write_always_refusing : (r : SessionStep) (after : List ℕ) (n : ℕ) → told r ≡ suc n
       → StepMeets r after (write_step (session (IO command) last) flash ones) → ⊥
@@ -109,7 +110,7 @@ elsewhere = switch_command 1 Emmc
 abbrev block_of : CommandBlock → List ℕ
 block_of c = command_bytes c ++ replicate 7 0
 
-abbrev started_by : ℕ → LastReset → Told CommandBlock → Step
+abbrev started_by : ℕ → Option ResetOpcode → Told CommandBlock → Step
 started_by block last t =
     record {
       told = (start_turn Nor block t last 1).told;
@@ -126,7 +127,7 @@ pending_number (Status c status) = status_number status
 abbrev pends : SessionStep → ℕ
 pends r = pending_number r.session.current_command
 
-module _ (last : LastReset) (block : ℕ) where
+module _ (last : Option ResetOpcode) (block : ℕ) where
   -- `write_step_by`: OR for AND
   pub or_for_and : (r : SessionStep) (after : List ℕ) → get_or after 0 0 ≡ 0xFF → StepMeets r after (write_step_by Nor block (session (IO command) last) low crossing) → ⊥
   unfolding or_refuse write_step_by write_step_of flash_sectors flash_rules write_row write_io_turn sector_turn is_out has_code fits_in done moved_by stored_by flash_after programmed over

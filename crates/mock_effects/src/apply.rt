@@ -6,7 +6,6 @@ ghost use Rattle.protocol_bytes.specs.Sector.{sector_size};
 ghost use Rattle.mock_table.specs.Turn.{EffectFits, reply_size};
 ghost use Rattle.mock_effects.specs.Effects.{erased, programmed, cells_told, flash_after, pending_after, reply_bytes, buffer_after};
 
-use lent_bytes;
 use mock_base::config::MockDeviceConfig;
 use mock_base::range::FlashRange;
 use mock_table::outcome::{Effect, ReplyKind};
@@ -19,16 +18,6 @@ const ERASED: u8 = 0xFF;
 // Little-endian, bit 4 set.
 const NOR_STORAGE: [u8; 4] = [0x10, 0, 0, 0];
 
-fn fill(part: &mut [u8])
-    ensures { part.new ≡ replicate (length part.old) erased }
-{
-    let mut i = 0;
-    while i < part.len() {
-        part[i] = ERASED;
-        i += 1;
-    }
-}
-
 fn erase(range: FlashRange, flash: &mut [u8])
     requires { range.first * sector_size + range.count * sector_size ≤ length flash.old }
     ensures { flash.new ≡ over (range.first * sector_size) (replicate (range.count * sector_size) erased) flash.old }
@@ -36,7 +25,7 @@ fn erase(range: FlashRange, flash: &mut [u8])
     let size = SECTOR_SIZE as usize;
     let start = (range.first as usize) * size;
     let end = start + (range.count as usize) * size;
-    fill(&mut flash[start..end]);
+    flash[start..end].fill(ERASED);
 }
 
 fn store(range: FlashRange, flash: &mut [u8], data: &[u8])
@@ -44,7 +33,7 @@ fn store(range: FlashRange, flash: &mut [u8], data: &[u8])
     ensures { flash.new ≡ over (range.first * sector_size) «data».now flash.old }
 {
     let start = (range.first as usize) * (SECTOR_SIZE as usize);
-    lent_bytes::copy(data, &mut flash[start..]);
+    flash[start..start + data.len()].copy_from_slice(data);
 }
 
 // Whether clearing bits alone makes each byte the one asked.
@@ -52,24 +41,24 @@ fn cells_told(old: &[u8], asked: &[u8]) -> Status
     requires { length asked.now ≤ length old.now }
     ensures { result ≡ cells_told asked.now old.now }
 {
-    let mut i = 0;
-    while i < asked.len() {
-        if old[i] & asked[i] != asked[i] {
-            return Status::FAILED;
-        }
-        i += 1;
+    if old
+        .iter()
+        .zip(asked)
+        .all(|(&before, &byte)| before & byte == byte)
+    {
+        Status::SUCCESS
+    } else {
+        Status::FAILED
     }
-    Status::SUCCESS
 }
 
+// By places, since of cells that an iterator lends through `zip` no proof knows what is left in them.
 fn clear_bits(part: &mut [u8], asked: &[u8])
     requires { length asked.now ≤ length part.old }
     ensures { part.new ≡ front (programmed asked.now part.old) part.old }
 {
-    let mut i = 0;
-    while i < asked.len() {
-        part[i] = part[i] & asked[i];
-        i += 1;
+    for i in 0..asked.len() {
+        part[i] &= asked[i];
     }
 }
 
@@ -87,10 +76,9 @@ fn supply(range: FlashRange, flash: &[u8], data: &mut [u8])
     requires { (range.first * sector_size + range.count * sector_size ≤ length flash.now) × (range.count * sector_size ≤ length «data».old) }
     ensures { «data».new ≡ front (field (range.first * sector_size) (range.count * sector_size) flash.now) «data».old }
 {
-    let size = SECTOR_SIZE as usize;
-    let start = (range.first as usize) * size;
-    let end = start + (range.count as usize) * size;
-    lent_bytes::copy(&flash[start..end], data);
+    let start = (range.first as usize) * (SECTOR_SIZE as usize);
+    let length = (range.count as usize) * (SECTOR_SIZE as usize);
+    data[..length].copy_from_slice(&flash[start..start + length]);
 }
 
 fn reply(config: MockDeviceConfig, sectors: u32, kind: ReplyKind, data: &mut [u8])
@@ -98,33 +86,19 @@ fn reply(config: MockDeviceConfig, sectors: u32, kind: ReplyKind, data: &mut [u8
     ensures { «data».new ≡ front (reply_bytes config sectors kind) «data».old }
 {
     match kind {
-        ReplyKind::FlashId => {
-            let id = config.flash_id;
-            lent_bytes::copy(&id, data);
-        }
-        ReplyKind::FlashInfo => {
-            let info = config.flash_info(sectors);
-            lent_bytes::copy(&info, data);
-        }
-        ReplyKind::ChipInfo => {
-            let info = config.chip_info;
-            lent_bytes::copy(&info, data);
-        }
-        ReplyKind::Capability => {
-            let capability = config.capability;
-            lent_bytes::copy(&capability, data);
-        }
-        ReplyKind::Storage => {
-            let storage = NOR_STORAGE;
-            lent_bytes::copy(&storage, data);
-        }
+        ReplyKind::FlashId => data.copy_from_slice(&config.flash_id),
+        ReplyKind::FlashInfo => data.copy_from_slice(&config.flash_info(sectors)),
+        ReplyKind::ChipInfo => data.copy_from_slice(&config.chip_info),
+        ReplyKind::Capability => data.copy_from_slice(&config.capability),
+        ReplyKind::Storage => data.copy_from_slice(&NOR_STORAGE),
         ReplyKind::Status(tag, pending) => {
             let status = CommandStatus {
-                tag: tag,
+                tag,
                 residue: 0,
                 status: pending,
             };
-            status.to_bytes(data);
+            // written, since the buffer is as long as a status
+            let _ = status.to_bytes(data);
         }
     }
 }
@@ -144,9 +118,7 @@ pub(crate) fn apply_to_flash(effect: Effect, flash: &mut [u8], data: &[u8]) -> S
             Status::SUCCESS
         }
         Effect::Program(range) => program(range, flash, data),
-        Effect::Nothing => Status::SUCCESS,
-        Effect::Supply(_) => Status::SUCCESS,
-        Effect::Reply(_) => Status::SUCCESS,
+        Effect::Nothing | Effect::Supply(_) | Effect::Reply(_) => Status::SUCCESS,
     }
 }
 
@@ -167,9 +139,6 @@ pub(crate) fn apply_to_buffer(
             kind,
             data,
         ),
-        Effect::Nothing => {}
-        Effect::Fill(_) => {}
-        Effect::Store(_) => {}
-        Effect::Program(_) => {}
+        Effect::Nothing | Effect::Fill(_) | Effect::Store(_) | Effect::Program(_) => {}
     }
 }

@@ -11,7 +11,7 @@ use apply::{apply_to_buffer, apply_to_flash};
 use mock_base::cells::Variety;
 use mock_base::config::MockDeviceConfig;
 use mock_base::error::MockAnswer;
-use mock_base::range::{FlashSectors, flash_sectors, size_answer};
+use mock_base::range::{flash_sectors, size_answer};
 use mock_table::outcome::Outcome;
 use mock_table::reading::read_outcome;
 use mock_table::session::{CommandState, Session};
@@ -29,9 +29,8 @@ fn failed(state: CommandState) -> CommandState
     ensures { result ≡ failed state }
 {
     match state {
-        CommandState::None => CommandState::None,
-        CommandState::IO(command) => CommandState::IO(command),
         CommandState::Status(command, _) => CommandState::Status(command, Status::FAILED),
+        CommandState::None | CommandState::IO(_) => state,
     }
 }
 
@@ -49,11 +48,9 @@ fn pend(status: Status, state: CommandState) -> CommandState
 fn pended(status: Status, session: Session) -> Session
     ensures { result ≡ pended status session }
 {
-    let state = session.current_command;
-    let reset = session.last_reset;
     Session {
-        current_command: pend(status, state),
-        last_reset: reset,
+        current_command: pend(status, session.current_command),
+        ..session
     }
 }
 
@@ -68,20 +65,17 @@ pub fn write_step_by(
     ensures { StepMeets result flash.new (write_step_by variety block_size session flash.old «data».now) }
 {
     let size = flash_sectors(flash.len());
-    let FlashSectors::Whole(sectors) = size else {
+    let Ok(sectors) = size else {
         return SessionStep {
             answer: size_answer(size),
-            session: session,
+            session,
         };
     };
     let outcome = write_outcome(session, variety, block_size, sectors, data);
-    let effect = outcome.effect;
-    let pending = apply_to_flash(effect, flash, data);
-    let answer = outcome.answer;
-    let next = outcome.session;
+    let pending = apply_to_flash(outcome.effect, flash, data);
     SessionStep {
-        answer: answer,
-        session: pended(pending, next),
+        answer: outcome.answer,
+        session: pended(pending, outcome.session),
     }
 }
 
@@ -96,20 +90,17 @@ pub fn read_step_by(
     ensures { StepMeets result «data».new (read_step_by variety session config flash.now «data».old) }
 {
     let size = flash_sectors(flash.len());
-    let FlashSectors::Whole(sectors) = size else {
+    let Ok(sectors) = size else {
         return SessionStep {
             answer: size_answer(size),
-            session: session,
+            session,
         };
     };
     let outcome = read_outcome(session, variety, sectors, data.len());
-    let effect = outcome.effect;
-    apply_to_buffer(effect, config, flash, data);
-    let answer = outcome.answer;
-    let after = outcome.session;
+    apply_to_buffer(outcome.effect, config, flash, data);
     SessionStep {
-        answer: answer,
-        session: after,
+        answer: outcome.answer,
+        session: outcome.session,
     }
 }
 

@@ -20,8 +20,6 @@ use Rattle.mock_table.specs.Ways.{stored_by, moved_by}
 use Rattle.mock_table.specs.Table.{sector_turn, write_io_turn, write_row, status_turn, read_row}
 use Rattle.mock_table.specs.declared.session.CommandState.{CommandState}
 use Rattle.mock_table.specs.declared.session.CommandState.TheVariants.{None, IO, Status}
-use Rattle.mock_table.specs.declared.session.LastReset.{LastReset}
-use Rattle.mock_table.specs.declared.session.LastReset.TheVariants as reset
 use Rattle.mock_table.specs.declared.session.Session.{Session}
 use Rattle.mock_base.specs.declared.config.MockDeviceConfig.{MockDeviceConfig}
 use Rattle.mock_effects.specs.Effects.{flash_after, pending_after, reply_bytes, buffer_after}
@@ -29,6 +27,9 @@ use Rattle.mock_effects.specs.Steps.{pend, write_step_of, write_step_by, write_s
 use Rattle.mock_effects.specs.declared.SessionStep.{SessionStep}
 use Rattle.mock_session.specs.Start.{fresh_session, start_step_of, start_step}
 use Rattle.mock_session.specs.Lent.{CallMeets}
+use Rattle.std.specs.Prelude.{Option}
+use Rattle.protocol_codes.specs.declared.ResetOpcode.{ResetOpcode}
+use Rattle.std.specs.declared.option.Option.TheVariants as option
 
 -- the transaction: 0 none, 1 awaiting data, 2 awaiting status; the last reset: its opcode's number, 5 for none
 abbrev state_number : CommandState → ℕ
@@ -39,9 +40,9 @@ state_number (Status c status) = 2
 abbrev waits : Session → ℕ
 waits s = state_number s.current_command
 
-abbrev reset_told : LastReset → ℕ
-reset_told reset.None = 5
-reset_told (reset.Some opcode) = reset_number opcode
+abbrev reset_told : Option ResetOpcode → ℕ
+reset_told option.None = 5
+reset_told (option.Some opcode) = reset_number opcode
 
 -- a flash of one sector, a sector of ones, and a command that writes sector 0
 abbrev flash : List ℕ
@@ -55,13 +56,13 @@ command = write_lba_command 1 0 1
 
 -- a session that awaits the command's data, and one that awaits its status, both after a reset
 abbrev for_data : Session
-for_data = record { current_command = IO command; last_reset = reset.Some Maskrom }
+for_data = record { current_command = IO command; last_reset = option.Some Maskrom }
 
 abbrev for_status : Session
-for_status = record { current_command = Status command SUCCESS; last_reset = reset.Some Maskrom }
+for_status = record { current_command = Status command SUCCESS; last_reset = option.Some Maskrom }
 
 -- `fresh`: a reset at first
-pub reset_at_first : (s : Session) → s.last_reset ≡ reset.Some Maskrom → s ≡ fresh_session → ⊥
+pub reset_at_first : (s : Session) → s.last_reset ≡ option.Some Maskrom → s ≡ fresh_session → ⊥
 reset_at_first s e f = let z : ◌≡◌ {A = ℕ} 3 5 = sym (ap reset_told e) ∙ ap (λ (t : Session). reset_told t.last_reset) f in omega arith
 
 -- a transaction at first
@@ -113,5 +114,5 @@ pub look_at_a_fresh_one : (r : Session) → r ≡ fresh_session → r ≡ for_st
 look_at_a_fresh_one r e f = let z : ◌≡◌ {A = ℕ} 0 2 = sym (ap waits e) ∙ ap waits f in omega arith
 
 -- the record without its reset
-pub look_without_the_reset : (r : Session) → r.last_reset ≡ reset.None → r ≡ for_status → ⊥
+pub look_without_the_reset : (r : Session) → r.last_reset ≡ option.None → r ≡ for_status → ⊥
 look_without_the_reset r e f = let z : ◌≡◌ {A = ℕ} 5 3 = sym (ap reset_told e) ∙ ap (λ (t : Session). reset_told t.last_reset) f in omega arith

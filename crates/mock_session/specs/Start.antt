@@ -4,12 +4,12 @@ use Rattle.promise.specs.Told.{Told, given, refused}
 use Rattle.mock_base.specs.Flash.{flash_sectors}
 use Rattle.mock_table.specs.declared.session.Session.{Session}
 use Rattle.mock_table.specs.declared.session.CommandState.TheVariants as state
-use Rattle.mock_table.specs.declared.session.LastReset.TheVariants as reset
 use Rattle.mock_effects.specs.Steps.{Step, keeps}
+use Rattle.std.specs.declared.option.Option.TheVariants.{None}
 
 -- no transaction, no reset
 abbrev pub fresh_session : Session
-fresh_session = record { current_command = state.None; last_reset = reset.None }
+fresh_session = record { current_command = state.None; last_reset = None }
 
 -- 60 and 61 at the start over a lent flash, this order; "A refusal writes no lent buffer and changes no record"
 unfoldable pub start_step_of : Told ℕ → Session → Step

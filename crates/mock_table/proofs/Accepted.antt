@@ -22,20 +22,21 @@ use Rattle.mock_table.specs.Ways.{moved_by}
 use Rattle.mock_table.specs.Table.{range_of, range_rule, length_rule, sector_turn, write_io_turn, write_row, write_turn, code_turn, read_io_turn, read_row, read_turn}
 use Rattle.mock_table.specs.declared.session.CommandState.{CommandState}
 use Rattle.mock_table.specs.declared.session.CommandState.TheVariants.{IO, Status}
-use Rattle.mock_table.specs.declared.session.LastReset.{LastReset}
 use Rattle.mock_table.specs.declared.session.Session.{Session}
+use Rattle.std.specs.Prelude.{Option}
+use Rattle.protocol_codes.specs.declared.ResetOpcode.{ResetOpcode}
 
 -- its range fits, its bytes are as many as its sectors', and they go the command's way
-pub record Moves (v : Variety) (last : LastReset) (c : CommandBlock) (direction : Direction) (sectors actual : ℕ) (t : Turn) : Type 0 where
+pub record Moves (v : Variety) (last : Option ResetOpcode) (c : CommandBlock) (direction : Direction) (sectors actual : ℕ) (t : Turn) : Type 0 where
   pub turn : t ≡ done (Status c SUCCESS) last (moved_by v direction (range_of c))
   pub fits : fits_in sectors c.cd_address c.cd_length ≡ true
   pub size : actual ≡ c.cd_length * sector_size
 
-tells_refused : (last : LastReset) (n : ℕ) (values : List ℕ) → (refuses last n values).told ≡ refused n values
+tells_refused : (last : Option ResetOpcode) (n : ℕ) (values : List ℕ) → (refuses last n values).told ≡ refused n values
 unfolding refuses
 tells_refused last n values = refl
 
-module _ (v : Variety) (last : LastReset) (c : CommandBlock) (sectors actual : ℕ) where
+module _ (v : Variety) (last : Option ResetOpcode) (c : CommandBlock) (sectors actual : ℕ) where
   sector_accepted : (direction : Direction) → (sector_turn v last c direction sectors actual).told ≡ given tt
       → Moves v last c direction sectors actual (sector_turn v last c direction sectors actual)
   unfolding sector_turn

@@ -25,11 +25,11 @@ use Rattle.mock_table.specs.Ways.{stored_by, moved_by, switches, tells_storage}
 use Rattle.mock_table.specs.Table.{range_of, range_rule, length_rule, sector_turn, stored_reset, erase_rules, erase_turn, zero_length_turn, start_turn, write_io_turn, write_row, reply_turn, code_turn, read_io_turn, status_turn, read_row}
 use Rattle.mock_table.specs.declared.session.CommandState.{CommandState}
 use Rattle.mock_table.specs.declared.session.CommandState.TheVariants.{None, IO, Status}
-use Rattle.mock_table.specs.declared.session.LastReset.{LastReset}
 use Rattle.mock_table.specs.declared.outcome.Effect.{Effect}
 use Rattle.mock_table.specs.declared.outcome.Effect.TheVariants.{Nothing, Fill, Store, Program, Supply, Reply}
 use Rattle.mock_table.specs.declared.outcome.ReplyKind.{ReplyKind}
 use Rattle.mock_table.specs.declared.outcome.ReplyKind.TheVariants as reply
+use Rattle.std.specs.Prelude.{Option}
 
 unfoldable pub NoProgram : Effect → Type 0
 NoProgram Nothing = Unit
@@ -43,7 +43,7 @@ pub record Firsts (t : Turn) : Type 0 where
   pub quiet : Quiet t.next.current_command
   pub stores : NoProgram t.effect
 
-module _ (block : ℕ) (last : LastReset) (sectors actual : ℕ) where
+module _ (block : ℕ) (last : Option ResetOpcode) (sectors actual : ℕ) where
   refuses_first : (number : ℕ) (values : List ℕ) → Firsts (refuses last number values)
   unfolding refuses Quiet NoProgram
   refuses_first number values = record { quiet = tt; stores = tt }
@@ -121,7 +121,7 @@ module _ (block : ℕ) (last : LastReset) (sectors actual : ℕ) where
   read_first (Status c status) = status_first c status
 
 -- whatever the transaction is
-pub write_first : (block : ℕ) (last : LastReset) (sectors : ℕ) (bytes : List ℕ) (at : CommandState) → Firsts (write_row First block at last sectors bytes)
+pub write_first : (block : ℕ) (last : Option ResetOpcode) (sectors : ℕ) (bytes : List ℕ) (at : CommandState) → Firsts (write_row First block at last sectors bytes)
 unfolding write_row
 write_first block last sectors bytes None = start_first block last sectors (length bytes) (read_command bytes)
 write_first block last sectors bytes (IO c) = write_io_first block last sectors (length bytes) c

@@ -26,10 +26,10 @@ use Rattle.mock_table.specs.Ways.{stored_by, moved_by, switches}
 use Rattle.mock_table.specs.Table.{range_of, range_rule, length_rule, sector_turn, stored_reset, erase_rules, erase_turn, zero_length_turn, start_turn, write_io_turn, write_row, write_turn}
 use Rattle.mock_table.specs.declared.session.CommandState.{CommandState}
 use Rattle.mock_table.specs.declared.session.CommandState.TheVariants.{None, IO, Status}
-use Rattle.mock_table.specs.declared.session.LastReset.{LastReset}
 use Rattle.mock_table.specs.declared.session.Session.{Session}
 use Rattle.mock_table.specs.declared.outcome.Effect.{Effect}
 use Rattle.mock_table.specs.declared.outcome.Effect.TheVariants.{Nothing, Fill, Store, Program, Supply, Reply}
+use Rattle.std.specs.Prelude.{Option}
 
 -- an effect's range, if it has one, is this
 unfoldable pub Within : FlashRange → Effect → Type 0
@@ -46,7 +46,7 @@ command_of None bytes = read_command bytes
 command_of (IO c) bytes = given c
 command_of (Status c status) bytes = given c
 
-module _ (v : Variety) (block : ℕ) (last : LastReset) (sectors actual : ℕ) (c : CommandBlock) where
+module _ (v : Variety) (block : ℕ) (last : Option ResetOpcode) (sectors actual : ℕ) (c : CommandBlock) where
   abbrev OwnTurn : Turn → Type 0
   OwnTurn t = Within (range_of c) t.effect
 
@@ -96,7 +96,7 @@ module _ (v : Variety) (block : ℕ) (last : LastReset) (sectors actual : ℕ) (
       either_way OwnTurn (refuses last) (rule (not (is_out c.flags)) 55 [] ∷ rule (not (has_code c WriteLBA)) 55 [] ∷ [])
       (sector_turn v last c Out sectors actual) refuses_own (λ met. sector_own Out)
 
-write_row_own : (v : Variety) (block : ℕ) (state : CommandState) (last : LastReset) (sectors : ℕ) (bytes : List ℕ) (c : CommandBlock) → command_of state bytes ≡ given c
+write_row_own : (v : Variety) (block : ℕ) (state : CommandState) (last : Option ResetOpcode) (sectors : ℕ) (bytes : List ℕ) (c : CommandBlock) → command_of state bytes ≡ given c
     → Within (range_of c) (write_row v block state last sectors bytes).effect
 unfolding command_of write_row
 write_row_own v block None last sectors bytes c e =

@@ -30,20 +30,20 @@ use Rattle.mock_table.specs.Ways.{stored_by, moved_by, switches, switched, tells
 use Rattle.mock_table.specs.Table.{range_of, range_rule, length_rule, sector_turn, stored_reset, erase_rules, erase_turn, zero_length_turn, start_turn, write_io_turn, write_row, write_turn, reply_turn, code_turn, read_io_turn, status_turn, read_row, read_turn}
 use Rattle.mock_table.specs.declared.session.CommandState.{CommandState}
 use Rattle.mock_table.specs.declared.session.CommandState.TheVariants.{None, IO, Status}
-use Rattle.mock_table.specs.declared.session.LastReset.{LastReset}
-use Rattle.mock_table.specs.declared.session.LastReset.TheVariants as reset
 use Rattle.mock_table.specs.declared.session.Session.{Session}
 use Rattle.mock_table.specs.declared.outcome.Effect.{Effect}
 use Rattle.mock_table.specs.declared.outcome.Effect.TheVariants.{Nothing, Fill, Reply}
 use Rattle.mock_table.specs.declared.outcome.ReplyKind.{ReplyKind}
 use Rattle.mock_table.specs.declared.outcome.ReplyKind.TheVariants as reply
+use Rattle.std.specs.Prelude.{Option}
+use Rattle.std.specs.declared.option.Option.TheVariants.{Some}
 
-module _ (v : Variety) (block : ℕ) (last : LastReset) (sectors actual : ℕ) where
+module _ (v : Variety) (block : ℕ) (last : Option ResetOpcode) (sectors actual : ℕ) where
   refuses_sane : (number : ℕ) (values : List ℕ) → Sane last sectors actual (refuses last number values)
   unfolding refuses EffectFits
   refuses_sane number values = record { fits = tt; ends = λ n vs e. (refl, refl) }
 
-  done_sane : (state : CommandState) (reset : LastReset) (effect : Effect) → EffectFits sectors actual effect
+  done_sane : (state : CommandState) (reset : Option ResetOpcode) (effect : Effect) → EffectFits sectors actual effect
       → Sane last sectors actual (done state reset effect)
   unfolding done
   done_sane state reset effect h = record { fits = h; ends = λ n vs e. let z : ◌≡◌ {A = ℕ} 0 1 = cc in absurd (omega arith) }
@@ -72,7 +72,7 @@ module _ (v : Variety) (block : ℕ) (last : LastReset) (sectors actual : ℕ) w
 
   reset_sane : (c : CommandBlock) (t : Told ResetOpcode) → Sane last sectors actual (stored_reset t last c)
   unfolding stored_reset EffectFits
-  reset_sane c (given opcode) = done_sane (Status c SUCCESS) (reset.Some opcode) Nothing tt
+  reset_sane c (given opcode) = done_sane (Status c SUCCESS) (Some opcode) Nothing tt
   reset_sane c (refused number values) = refuses_sane number values
 
   erase_sane : (c : CommandBlock) → Sane last sectors actual (erase_turn v block last c sectors)
@@ -138,7 +138,7 @@ module _ (v : Variety) (block : ℕ) (last : LastReset) (sectors actual : ℕ) w
   read_row_sane (IO c) = read_io_sane c
   read_row_sane (Status c status) = status_sane c status
 
-write_row_sane : (v : Variety) (block : ℕ) (last : LastReset) (sectors : ℕ) (bytes : List ℕ) (state : CommandState)
+write_row_sane : (v : Variety) (block : ℕ) (last : Option ResetOpcode) (sectors : ℕ) (bytes : List ℕ) (state : CommandState)
     → Sane last sectors (length bytes) (write_row v block state last sectors bytes)
 unfolding write_row
 write_row_sane v block last sectors bytes None = start_sane v block last sectors (length bytes) (read_command bytes)

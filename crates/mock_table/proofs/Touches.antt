@@ -30,10 +30,10 @@ use Rattle.mock_table.specs.Table.{range_of, sector_turn, stored_reset, erase_ru
 use Rattle.mock_table.specs.Erasing.{command_in, ErasesWithin, Erases, Splits}
 use Rattle.mock_table.specs.declared.session.CommandState.{CommandState}
 use Rattle.mock_table.specs.declared.session.CommandState.TheVariants.{None, IO, Status}
-use Rattle.mock_table.specs.declared.session.LastReset.{LastReset}
-use Rattle.mock_table.specs.declared.session.LastReset.TheVariants as reset
 use Rattle.mock_table.specs.declared.outcome.Effect.{Effect}
 use Rattle.mock_table.specs.declared.outcome.Effect.TheVariants.{Nothing, Fill, Store, Program, Supply, Reply}
+use Rattle.std.specs.Prelude.{Option}
+use Rattle.std.specs.declared.option.Option.TheVariants.{Some}
 
 module _ (v : Variety) (block sectors : ℕ) (command : Told CommandBlock) where
   unfoldable pub OnFlash : Effect → Type 0
@@ -48,13 +48,13 @@ module _ (v : Variety) (block sectors : ℕ) (command : Told CommandBlock) where
     pub effect : OnFlash t.effect
     pub by_63 : (values : List ℕ) → t.told ≡ refused 63 values → (c : CommandBlock) × (command ≡ given c) × Splits v block sectors c
 
-  module _ (last : LastReset) where
+  module _ (last : Option ResetOpcode) where
     refuses_touches : (n : ℕ) (values : List ℕ) → (n ≡ 63 → ⊥) → Touches (refuses last n values)
     unfolding refuses OnFlash number
     refuses_touches n values other =
         record { effect = tt; by_63 = λ vs e. absurd (other (ap (λ (t : Told Unit). number t) e)) }
 
-    done_touches : (state : CommandState) (last' : LastReset) (effect : Effect) → OnFlash effect → Touches (done state last' effect)
+    done_touches : (state : CommandState) (last' : Option ResetOpcode) (effect : Effect) → OnFlash effect → Touches (done state last' effect)
     unfolding done
     done_touches state last' effect on = record { effect = on; by_63 = λ vs e. absurd (let z : ◌≡◌ {A = ℕ} 0 1 = cc in omega arith) }
 
@@ -79,7 +79,7 @@ module _ (v : Variety) (block sectors : ℕ) (command : Told CommandBlock) where
 
       reset_touches : (t : Told ResetOpcode) → reset_of c.cd_opcode ≡ t → Touches (stored_reset t last c)
       unfolding stored_reset OnFlash reset_of number
-      reset_touches (given opcode) e = done_touches (Status c SUCCESS) (reset.Some opcode) Nothing tt
+      reset_touches (given opcode) e = done_touches (Status c SUCCESS) (Some opcode) Nothing tt
       reset_touches (refused n values) e =
           let f = known_refused 52 reset_number reset_opcodes c.cd_opcode n values e in
           let own : n ≡ 52 = ap (λ (t : Told ResetOpcode). number t) (sym e ∙ f) in
@@ -113,7 +113,7 @@ module _ (v : Variety) (block sectors : ℕ) (command : Told CommandBlock) where
     start_touches (refused n values) own = refuses_touches 56 (n ∷ values) (λ e. omega arith)
 
 -- whatever the transaction is
-pub write_touches : (v : Variety) (block : ℕ) (state : CommandState) (last : LastReset) (sectors : ℕ) (bytes : List ℕ)
+pub write_touches : (v : Variety) (block : ℕ) (state : CommandState) (last : Option ResetOpcode) (sectors : ℕ) (bytes : List ℕ)
     → Touches v block sectors (command_in state bytes) (write_row v block state last sectors bytes)
 unfolding write_row command_in
 write_touches v block None last sectors bytes = start_touches v block sectors (read_command bytes) last (read_command bytes) refl
@@ -121,14 +121,14 @@ write_touches v block (IO c) last sectors bytes = write_io_touches v block secto
 write_touches v block (Status c status) last sectors bytes = refuses_touches v block sectors (refused 0 []) last 55 [] (λ e. omega arith)
 
 -- an erase that splits a block is refused by 63
-pub splits_63 : (v : Variety) (block : ℕ) (last : LastReset) (sectors : ℕ) (c : CommandBlock) → Splits v block sectors c
+pub splits_63 : (v : Variety) (block : ℕ) (last : Option ResetOpcode) (sectors : ℕ) (c : CommandBlock) → Splits v block sectors c
     → start_turn v block (given c) last sectors ≡ refuses last 63 []
 unfolding start_turn zero_length_turn erase_turn erase_rules or_refuse
 splits_63 v block last sectors c s =
     rw (eq-eqb c.transfer_length 0 s.within.empty, s.within.code, s.within.fits, s.parts) refl
 
 -- and one that splits none is done
-pub erases_fill : (v : Variety) (block : ℕ) (last : LastReset) (sectors : ℕ) (c : CommandBlock) → Erases v block sectors c
+pub erases_fill : (v : Variety) (block : ℕ) (last : Option ResetOpcode) (sectors : ℕ) (c : CommandBlock) → Erases v block sectors c
     → start_turn v block (given c) last sectors ≡ done (Status c SUCCESS) last (Fill (range_of c))
 unfolding start_turn zero_length_turn erase_turn erase_rules or_refuse
 erases_fill v block last sectors c s =

@@ -25,13 +25,14 @@ use Rattle.mock_table.specs.Ways.{is_multiple, splits, switches, switched, tells
 use Rattle.mock_table.specs.Table.{sector_turn, erase_rules, erase_turn, zero_length_turn, start_turn, write_io_turn, write_row, write_turn, reply_turn, code_turn, read_io_turn, status_turn, read_row, read_turn}
 use Rattle.mock_table.specs.declared.session.CommandState.{CommandState}
 use Rattle.mock_table.specs.declared.session.CommandState.TheVariants.{None, IO, Status}
-use Rattle.mock_table.specs.declared.session.LastReset.{LastReset}
 use Rattle.mock_table.specs.declared.session.Session.{Session}
 use Rattle.mock_table.specs.declared.outcome.Effect.{Effect}
 use Rattle.mock_table.specs.declared.outcome.Effect.TheVariants as effect
 use Rattle.mock_table.specs.declared.outcome.ReplyKind.{ReplyKind}
 use Rattle.mock_table.specs.declared.outcome.ReplyKind.TheVariants as reply
 use Rattle.mock_table.specs.declared.outcome.Outcome.{Outcome}
+use Rattle.std.specs.Prelude.{Option}
+use Rattle.protocol_codes.specs.declared.ResetOpcode.{ResetOpcode}
 
 -- what an outcome tells by number
 abbrev told : Outcome → ℕ
@@ -43,7 +44,7 @@ state_number None = 0
 state_number (IO c) = 1
 state_number (Status c status) = 2
 
-module _ (v : Variety) (block : ℕ) (last : LastReset) where
+module _ (v : Variety) (block : ℕ) (last : Option ResetOpcode) where
   -- `write_outcome`: always refusing, whatever is told; one sector of data is taken
   pub write_always_refusing : (r : Outcome) (n : ℕ) → told r ≡ suc n
       → OutcomeMeets r (write_turn v block (session (IO (write_lba_command 1 0 1)) last) 128 (replicate 512 0)) → ⊥
@@ -77,7 +78,7 @@ module _ (v : Variety) (block : ℕ) (last : LastReset) where
 abbrev block_of : CommandBlock → List ℕ
 block_of c = command_bytes c ++ replicate 7 0
 
-begins : (v : Variety) (block : ℕ) (last : LastReset) (c : CommandBlock) → BlockFits c → (r : Outcome)
+begins : (v : Variety) (block : ℕ) (last : Option ResetOpcode) (c : CommandBlock) → BlockFits c → (r : Outcome)
     → OutcomeMeets r (write_turn v block (session None last) 128 (block_of c)) → OutcomeMeets r (start_turn v block (given c) last 128)
 unfolding write_row
 begins v block last c fits r meets =
@@ -109,7 +110,7 @@ pending_number None = 2
 pending_number (IO c) = 2
 pending_number (Status c status) = status_number status
 
-module _ (last : LastReset) where
+module _ (last : Option ResetOpcode) where
   -- `write_outcome` of NOR in blocks of 64: 63 before 57, of an erase of 2 sectors at 127 of 128, which breaks both
   pub blocks_before_range : (r : Outcome) → told r ≡ 63 → OutcomeMeets r (write_turn Nor 64 (session None last) 128 (block_of (erase_lba_command 1 127 2))) → ⊥
   unfolding number or_refuse start_turn zero_length_turn is_erase has_code erase_turn erase_rules fits_in refuses

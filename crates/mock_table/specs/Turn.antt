@@ -13,7 +13,6 @@ use Rattle.protocol.specs.declared.CommandBlock.{CommandBlock}
 use Rattle.mock_base.specs.Told.{Answers}
 use Rattle.mock_table.specs.declared.session.CommandState.{CommandState}
 use Rattle.mock_table.specs.declared.session.CommandState.TheVariants as state
-use Rattle.mock_table.specs.declared.session.LastReset.{LastReset}
 use Rattle.mock_table.specs.declared.session.Session.{Session}
 use Rattle.mock_table.specs.declared.outcome.Effect.{Effect}
 use Rattle.mock_table.specs.declared.outcome.Effect.TheVariants.{Nothing, Fill, Store, Program, Supply, Reply}
@@ -22,20 +21,22 @@ use Rattle.mock_table.specs.declared.outcome.ReplyKind.TheVariants.{FlashId, Fla
 use Rattle.mock_table.specs.declared.outcome.ReplyKind.TheVariants as reply
 use Rattle.mock_table.specs.declared.outcome.Outcome.{Outcome}
 use Rattle.mock_table.specs.declared.session.CommandState.TheVariants.{None}
+use Rattle.std.specs.Prelude.{Option}
+use Rattle.protocol_codes.specs.declared.ResetOpcode.{ResetOpcode}
 
 pub record Turn : Type 0 where
   pub told : Told Unit
   pub next : Session
   pub effect : Effect
 
-abbrev pub session : CommandState → LastReset → Session
+abbrev pub session : CommandState → Option ResetOpcode → Session
 session state reset = record { current_command = state; last_reset = reset }
 
 -- every bulk call, refused or not, first sets the transaction to none
-unfoldable pub refuses : LastReset → ℕ → List ℕ → Turn
+unfoldable pub refuses : Option ResetOpcode → ℕ → List ℕ → Turn
 refuses reset number values = record { told = refused number values; next = session state.None reset; effect = Nothing }
 
-unfoldable pub done : CommandState → LastReset → Effect → Turn
+unfoldable pub done : CommandState → Option ResetOpcode → Effect → Turn
 done state reset effect = record { told = given tt; next = session state reset; effect = effect }
 
 -- whether a command has this code
@@ -79,7 +80,7 @@ EffectFits sectors actual (Supply range) = (range.first + range.count ≤ sector
 EffectFits sectors actual (Reply kind) = actual ≡ reply_size kind
 
 -- a turn whose effect fits the flash; a refused one has none, and ends the transaction
-pub record Sane (last : LastReset) (sectors actual : ℕ) (t : Turn) : Type 0 where
+pub record Sane (last : Option ResetOpcode) (sectors actual : ℕ) (t : Turn) : Type 0 where
   pub fits : EffectFits sectors actual t.effect
   pub ends : (number : ℕ) (values : List ℕ) → t.told ≡ refused number values → (t.next ≡ session None last) × (t.effect ≡ Nothing)
 

@@ -5,12 +5,12 @@ ghost use Rattle.mock_table.specs.Table.{reply_turn, code_turn, read_io_turn, st
 
 use super::outcome::{Effect, Outcome, ReplyKind};
 use super::rows::{has_code, refuse, sector_io, settle};
-use super::session::{CommandState, LastReset, Session};
+use super::session::{CommandState, Session};
 use super::ways::tells_storage;
 use mock_base::cells::Variety;
 use mock_base::error::MockTransportError;
 use protocol::CommandBlock;
-use protocol_codes::{CommandCode, Direction, Status};
+use protocol_codes::{CommandCode, Direction, ResetOpcode, Status};
 
 #[tactic(auto, unfolding(crate::specs::Turn::reply_size))]
 fn reply_size(reply: ReplyKind) -> usize
@@ -26,17 +26,19 @@ fn reply_size(reply: ReplyKind) -> usize
     }
 }
 
-fn copy_reply(reset: LastReset, command: CommandBlock, reply: ReplyKind, actual: usize) -> Outcome
+fn copy_reply(
+    reset: Option<ResetOpcode>,
+    command: CommandBlock,
+    reply: ReplyKind,
+    actual: usize,
+) -> Outcome
     ensures { OutcomeMeets result (reply_turn reset command reply actual) }
 {
     let expected = reply_size(reply);
     if actual != expected {
         return refuse(
             reset,
-            MockTransportError::InvalidTransferLength {
-                expected: expected,
-                actual: actual,
-            },
+            MockTransportError::InvalidTransferLength { expected, actual },
         );
     }
     settle(
@@ -48,7 +50,7 @@ fn copy_reply(reset: LastReset, command: CommandBlock, reply: ReplyKind, actual:
 
 fn read_code(
     variety: Variety,
-    reset: LastReset,
+    reset: Option<ResetOpcode>,
     command: CommandBlock,
     sectors: usize,
     actual: usize,
@@ -78,21 +80,25 @@ fn read_code(
 
 fn read_io(
     variety: Variety,
-    reset: LastReset,
+    reset: Option<ResetOpcode>,
     command: CommandBlock,
     sectors: usize,
     actual: usize,
 ) -> Outcome
     ensures { OutcomeMeets result (read_io_turn variety reset command sectors actual) }
 {
-    let direction = command.flags;
-    let Direction::In = direction else {
+    let Direction::In = command.flags else {
         return refuse(reset, MockTransportError::UnexpectedRead);
     };
     read_code(variety, reset, command, sectors, actual)
 }
 
-fn read_status(reset: LastReset, command: CommandBlock, status: Status, actual: usize) -> Outcome
+fn read_status(
+    reset: Option<ResetOpcode>,
+    command: CommandBlock,
+    status: Status,
+    actual: usize,
+) -> Outcome
     ensures { OutcomeMeets result (status_turn reset command status actual) }
 {
     let reply = ReplyKind::Status(command.tag, status);
@@ -106,8 +112,7 @@ pub fn read_outcome(session: Session, variety: Variety, sectors: usize, actual: 
     ensures { OutcomeMeets result (read_turn variety session sectors actual) }
 {
     let reset = session.last_reset;
-    let state = session.current_command;
-    match state {
+    match session.current_command {
         CommandState::None => refuse(reset, MockTransportError::UnexpectedRead),
         CommandState::IO(command) => read_io(variety, reset, command, sectors, actual),
         CommandState::Status(command, status) => read_status(reset, command, status, actual),

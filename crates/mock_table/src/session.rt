@@ -14,13 +14,7 @@ pub enum CommandState {
 }
 
 #[derive(Clone, Copy)]
-pub enum LastReset {
-    None,
-    Some(ResetOpcode),
-}
-
-#[derive(Clone, Copy)]
 pub struct Session {
     pub current_command: CommandState,
-    pub last_reset: LastReset,
+    pub last_reset: Option<ResetOpcode>,
 }

@@ -35,23 +35,20 @@ pub(crate) fn moved_by(variety: Variety, direction: Direction, range: FlashRange
 fn is_multiple(n: u32, block_size: u16) -> bool
     ensures { result ≡ is_multiple n block_size }
 {
-    if block_size == 0 {
-        return n == 0;
-    }
-    n % (block_size as u32) == 0
+    n.is_multiple_of(block_size as u32)
 }
 
 #[tactic(auto, unfolding(crate::specs::Ways::splits))]
 pub(crate) fn splits(variety: Variety, block_size: u16, command: CommandBlock) -> bool
     ensures { result ≡ splits variety block_size command }
 {
-    if let Variety::First = variety {
-        return false;
+    match variety {
+        Variety::First => false,
+        Variety::Nor => {
+            !(is_multiple(command.cd_address, block_size)
+                && is_multiple(command.cd_length as u32, block_size))
+        }
     }
-    if !is_multiple(command.cd_address, block_size) {
-        return true;
-    }
-    !is_multiple(command.cd_length as u32, block_size)
 }
 
 #[tactic(auto, unfolding(crate::specs::Ways::switches))]
@@ -69,9 +66,10 @@ pub(crate) fn switched(opcode: u8) -> Status
     ensures { result ≡ switched opcode }
 {
     if opcode == NOR_STORAGE {
-        return Status::SUCCESS;
+        Status::SUCCESS
+    } else {
+        Status::FAILED
     }
-    Status::FAILED
 }
 
 #[tactic(auto, unfolding(crate::specs::Ways::tells_storage))]

@@ -7,34 +7,32 @@ ghost use Rattle.protocol.specs.CommandBytes.{read_command};
 
 use super::outcome::{Effect, Outcome};
 use super::rows::{has_code, refuse, sector_io, settle};
-use super::session::{CommandState, LastReset, Session};
+use super::session::{CommandState, Session};
 use super::ways::{splits, switched, switches};
 use mock_base::cells::Variety;
-use mock_base::error::{MockAnswer, MockResult, MockTransportError};
-use mock_base::range::{RangeAnswer, flash_range};
-use protocol::{CommandAnswer, CommandBlock, CommandBlockParseError};
-use protocol_codes::{CommandCode, Direction, ResetOpcode, ResetRead, Status};
+use mock_base::error::{MockAnswer, MockTransportError};
+use mock_base::range::flash_range;
+use protocol::{CommandBlock, CommandBlockParseError};
+use protocol_bytes::signature::Parse;
+use protocol_codes::{CommandCode, Direction, ResetOpcode, Status};
 
 #[tactic(auto, unfolding(crate::specs::Turn::is_erase))]
 fn is_erase(command: CommandBlock) -> bool
     ensures { result ≡ is_erase command }
 {
-    if has_code(command, CommandCode::EraseLBA) {
-        return true;
-    }
-    has_code(command, CommandCode::EraseForce)
+    has_code(command, CommandCode::EraseLBA) || has_code(command, CommandCode::EraseForce)
 }
 
-fn handle_reset(reset: LastReset, command: CommandBlock) -> Outcome
+fn handle_reset(reset: Option<ResetOpcode>, command: CommandBlock) -> Outcome
     ensures { OutcomeMeets result (reset_turn reset command) }
 {
     let opcode = command.cd_opcode;
-    let ResetRead::Known(known) = ResetOpcode::from_number(opcode) else {
+    let Ok(known) = ResetOpcode::try_from(opcode) else {
         return refuse(reset, MockTransportError::InvalidReset(opcode));
     };
     settle(
         CommandState::Status(command, Status::SUCCESS),
-        LastReset::Some(known),
+        Some(known),
         Effect::Nothing,
     )
 }
@@ -42,14 +40,13 @@ fn handle_reset(reset: LastReset, command: CommandBlock) -> Outcome
 fn handle_erase(
     variety: Variety,
     block_size: u16,
-    reset: LastReset,
+    reset: Option<ResetOpcode>,
     command: CommandBlock,
     sectors: usize,
 ) -> Outcome
     ensures { OutcomeMeets result (erase_turn variety block_size reset command sectors) }
 {
-    let RangeAnswer::Within(range) = flash_range(sectors, command.cd_address, command.cd_length)
-    else {
+    let Ok(range) = flash_range(sectors, command.cd_address, command.cd_length) else {
         return refuse(reset, MockTransportError::OutOfRange);
     };
     if splits(variety, block_size, command) {
@@ -65,7 +62,7 @@ fn handle_erase(
 fn handle_zero_length_command(
     variety: Variety,
     block_size: u16,
-    reset: LastReset,
+    reset: Option<ResetOpcode>,
     command: CommandBlock,
     sectors: usize,
 ) -> Outcome
@@ -85,18 +82,21 @@ fn handle_zero_length_command(
             Effect::Nothing,
         );
     }
-    let code = command.cd_code;
-    refuse(reset, MockTransportError::UnknownCommand(code))
+    refuse(reset, MockTransportError::UnknownCommand(command.cd_code))
 }
 
 // 56: bytes that are no command. The signature's bytes stand beside the refusal.
-fn refuse_block(reset: LastReset, error: CommandBlockParseError, signature: [u8; 4]) -> Outcome
+fn refuse_block(
+    reset: Option<ResetOpcode>,
+    error: CommandBlockParseError,
+    signature: [u8; 4],
+) -> Outcome
     ensures { result ≡ block_refused reset error signature }
 {
     Outcome {
         answer: MockAnswer {
-            result: MockResult::Refused(MockTransportError::CommandBlockError(error)),
-            signature: signature,
+            result: Err(MockTransportError::CommandBlockError(error)),
+            signature,
         },
         session: Session {
             current_command: CommandState::None,
@@ -109,18 +109,16 @@ fn refuse_block(reset: LastReset, error: CommandBlockParseError, signature: [u8;
 fn start_command(
     variety: Variety,
     block_size: u16,
-    reset: LastReset,
+    reset: Option<ResetOpcode>,
     sectors: usize,
     data: &[u8],
 ) -> Outcome
     ensures { OutcomeMeets result (start_turn variety block_size (read_command «data».now) reset sectors) }
 {
-    let parse = CommandBlock::from_bytes(data);
-    let answer = parse.answer;
-    let signature = parse.signature;
+    let Parse { answer, signature } = CommandBlock::from_bytes(data);
     let command = match answer {
-        CommandAnswer::Block(command) => command,
-        CommandAnswer::Refused(error) => return refuse_block(reset, error, signature),
+        Ok(command) => command,
+        Err(error) => return refuse_block(reset, error, signature),
     };
     if command.transfer_length == 0 {
         return handle_zero_length_command(variety, block_size, reset, command, sectors);
@@ -130,15 +128,14 @@ fn start_command(
 
 fn write_io(
     variety: Variety,
-    reset: LastReset,
+    reset: Option<ResetOpcode>,
     command: CommandBlock,
     sectors: usize,
     actual: usize,
 ) -> Outcome
     ensures { OutcomeMeets result (write_io_turn variety reset command sectors actual) }
 {
-    let direction = command.flags;
-    let Direction::Out = direction else {
+    let Direction::Out = command.flags else {
         return refuse(reset, MockTransportError::UnexpectedWrite);
     };
     if !has_code(command, CommandCode::WriteLBA) {
@@ -157,8 +154,7 @@ pub fn write_outcome(
     ensures { OutcomeMeets result (write_turn variety block_size session sectors «data».now) }
 {
     let reset = session.last_reset;
-    let state = session.current_command;
-    match state {
+    match session.current_command {
         CommandState::None => start_command(variety, block_size, reset, sectors, data),
         CommandState::IO(command) => write_io(variety, reset, command, sectors, data.len()),
         CommandState::Status(_, _) => refuse(reset, MockTransportError::UnexpectedWrite),

@@ -12,29 +12,32 @@ use Rattle.promise.specs.Rules.{pick, or_refuse}
 use Rattle.promise.specs.Bytes.{front, high_first, low_first}
 use Rattle.protocol_bytes.specs.Signature.{no_signature, signature_in}
 use Rattle.protocol_bytes.specs.Writing.{writing, written_told, WriteMeets}
-use Rattle.protocol_bytes.specs.declared.output.Written.{Written}
-use Rattle.protocol_bytes.specs.declared.output.Written.TheVariants.{Bytes, TooShort}
 use Rattle.protocol.specs.CommandBytes.{command_bytes, write_command}
 use Rattle.protocol.specs.declared.CommandBlock.{CommandBlock}
-use Rattle.operation_finish.specs.Reply.{Reply, blank, beside_of, FinishMeets}
+use Rattle.operation_finish.specs.Reply.{Reply, blank, beside_of, finish_told, FinishMeets}
 use Rattle.operation_finish.specs.declared.Finished.{Finished}
 use Rattle.operation.specs.declared.steps.Operation.{Operation}
-use Rattle.operation.specs.declared.steps.Operation.TheVariants as operation
 use Rattle.operation.specs.declared.steps.Asked.{Asked}
 use Rattle.operation.specs.declared.steps.Asked.TheVariants as asked
 use Rattle.operation.specs.declared.steps.UsbOperation.{UsbOperation}
-use Rattle.operation.specs.declared.steps.UsbStep.{UsbStep}
-use Rattle.operation.specs.declared.steps.UsbStep.TheVariants as step
 use Rattle.operation.specs.declared.steps.UsbStepped.{UsbStepped}
-use Rattle.operation.specs.declared.giving.Giving.{Giving}
 use Rattle.operation.specs.declared.giving.UsbGiven.{UsbGiven}
-use Rattle.operation.specs.Record.{transfer_length, commanded, command_out, turned}
-use Rattle.operation.specs.Step.{Asks, writes_command, does, stays, command_step, sector_step, finished_told, step_told, beside_asks, beside_at, step_of, StepMeets}
-use Rattle.operation.specs.Code.{sectored, plain, gave}
-use Rattle.operation.specs.Give.{keeps, nothing_asked, asks_for, owed, received, give_of, giving_told, GiveMeets}
+use Rattle.operation.specs.Record.{commanded, command_out}
+use Rattle.operation.specs.Step.{Asks, writes_command, does, stays, command_step, finished_told, step_told, beside_asks, beside_at, step_of, StepMeets}
+use Rattle.operation.specs.Code.{plain, finished_by}
+use Rattle.operation.specs.Give.{keeps, nothing_asked, asks_for, owed, received, give_of, GiveMeets}
+use Rattle.std.specs.Prelude.{Result}
+use Rattle.operation_finish.specs.declared.Beside.{Beside}
+use Rattle.operation_finish.specs.declared.UsbReply.{UsbReply}
+use Rattle.protocol_status.specs.declared.failure.UsbOperationError.{UsbOperationError}
+use Rattle.rule_number.specs.declared.OutputTooShort.{OutputTooShort}
+use Rattle.std.specs.declared.result.Result.TheVariants.{Ok, Err}
+use Rattle.operation.specs.declared.steps.UsbStep.{UsbStep}
+use Rattle.operation.specs.declared.steps.StepError.{StepError}
+use Rattle.operation.specs.declared.steps.StepError.TheVariants as step_error
 
 -- an answer with nothing beside it
-pub plain_meets : (answer : UsbStep) (next : UsbOperation) (told : Told Asks) (sent old new : List ℕ) (r : UsbStepped)
+pub plain_meets : (answer : Result UsbStep StepError) (next : UsbOperation) (told : Told Asks) (sent old new : List ℕ) (r : UsbStepped)
     → r ≡ plain answer next → step_told answer (blank no_signature) ≡ told → blank no_signature ≡ beside_at told → new ≡ front sent old
     → StepMeets r old new (does told sent next)
 plain_meets answer next told sent old new r e t b l =
@@ -48,18 +51,18 @@ pub command_out_lem : (op : UsbOperation) (room : ℕ) → 31 ≤ room → comma
 unfolding command_step or_refuse
 command_out_lem op room h = rw (le-ltb room 31 h)
 
-pub refused_20 : (op : UsbOperation) (old new : List ℕ) (r : UsbStepped) → r ≡ plain step.OutputTooShort op → new ≡ old → StepMeets r old new (stays op 20 [])
+pub refused_20 : (op : UsbOperation) (old new : List ℕ) (r : UsbStepped) → r ≡ plain (Err step_error.OutputTooShort) op → new ≡ old → StepMeets r old new (stays op 20 [])
 unfolding step_told beside_at beside_of signature_in
 refused_20 op old new r e l = plain_meets _ _ _ _ old new r e refl refl l
 
 -- the command's writer refused, or wrote its 24 bytes
-module _ (command : CommandBlock) (before after : List ℕ) (r : Written) where
+module _ (command : CommandBlock) (before after : List ℕ) (r : Result ℕ OutputTooShort) where
   short_at : (t : Bool) → ltb (length before) 31 ≡ t → ◌≡◌ {A = Told ℕ} (refused 20 []) (pick t (refused 20 []) (given 31))
       → after ≡ front (pick t [] (command_bytes command)) before → (length before < 31) × (after ≡ before)
   short_at true e h l = (ltb-true (length before) 31 e, l)
   short_at false e h l = let z : ◌≡◌ {A = ℕ} 0 1 = cc in absurd (omega arith)
 
-  pub written_short : r ≡ TooShort → WriteMeets r before after (write_command command (length before)) → (length before < 31) × (after ≡ before)
+  pub written_short : r ≡ (Err (record {})) → WriteMeets r before after (write_command command (length before)) → (length before < 31) × (after ≡ before)
   unfolding write_command writing or_refuse written_told
   written_short e m = short_at (ltb (length before) 31) refl (ap written_told (sym e) ∙ m.tells) m.leaves
 
@@ -68,7 +71,7 @@ module _ (command : CommandBlock) (before after : List ℕ) (r : Written) where
   whole_at true n e h l = let z : ◌≡◌ {A = ℕ} 0 1 = cc in absurd (omega arith)
   whole_at false n e h l = (ltb-false (length before) 31 e, l)
 
-  pub written_whole : (n : ℕ) → r ≡ Bytes n → WriteMeets r before after (write_command command (length before))
+  pub written_whole : (n : ℕ) → r ≡ Ok n → WriteMeets r before after (write_command command (length before))
       → (31 ≤ length before) × (after ≡ front (command_bytes command) before)
   unfolding write_command writing or_refuse written_told
   written_whole n e m = whole_at (ltb (length before) 31) n refl (ap written_told (sym e) ∙ m.tells) m.leaves
@@ -91,34 +94,25 @@ pub give_as : (this that : Asked) (op : UsbOperation) (bytes : List ℕ) (lent :
     → that ≡ this → GiveMeets r old new (give_of this op bytes lent) → GiveMeets r old new (give_of that op bytes lent)
 give_as this that op bytes lent old new {r} e m = subst (λ (x : Asked). GiveMeets r old new (give_of x op bytes lent)) (sym e) m
 
--- the data step of a sector operation, whatever it asks for
-module _ (op : UsbOperation) (answer : UsbStep) (asks : Asks) (a : Asked) (out : List ℕ)
-    (t : step_told answer (blank no_signature) ≡ given asks) (b : blank no_signature ≡ beside_asks asks) where
-  sector_at : (short : Bool) → StepMeets (pick short (plain step.DataDiffers op) (plain answer (turned op operation.CommandStatus a))) out out
-      (pick short (stays op 27 []) (does (given asks) [] (turned op operation.CommandStatus a)))
-  unfolding step_told beside_at beside_of signature_in
-  sector_at true = record { tells = refl; beside = refl; next = refl; leaves = refl }
-  sector_at false = record { tells = t; beside = b; next = refl; leaves = refl }
-
-  pub sector_meets : (lent : ℕ) (r : UsbStepped) → r ≡ sectored op lent answer a → StepMeets r out out (sector_step op lent asks a)
-  unfolding or_refuse
-  sector_meets lent r e = rw e (sector_at (ltb lent (transfer_length op)))
-
 beside_finished : (told : Told Reply) → beside_of told ≡ beside_at (finished_told told)
 unfolding beside_at beside_asks finished_told and_then
 beside_finished (given reply) = refl
 beside_finished (refused n values) = refl
 
 -- the finish's answer, passed on
-pub finish_meets : (end : Finished) (next : UsbOperation) (told : Told Reply) (out : List ℕ) → FinishMeets end told
-    → StepMeets (record { step = step.Finished end.answer; beside = end.beside; next = next }) out out (does (finished_told told) [] next)
-unfolding step_told
-finish_meets end next told out m =
-    record { tells = ap finished_told m.tells; beside = m.beside ∙ beside_finished told; next = refl; leaves = refl }
+pub passed_on : (answer : Result UsbReply UsbOperationError) (b : Beside) → step_told (finished_by answer) b ≡ finished_told (finish_told answer b)
+unfolding step_told finished_told finish_told and_then
+passed_on (Ok reply) b = refl
+passed_on (Err error) b = refl
 
-pub give_meets : (answer : Giving) (next : UsbOperation) (told : Told Unit) (put old new : List ℕ) (r : UsbGiven)
-    → r ≡ gave answer next → giving_told answer ≡ told → new ≡ front put old → GiveMeets r old new (record { told = told; sent = put; next = next })
-give_meets answer next told put old new r e t l = rw e (record { tells = t; next = refl; leaves = l })
+pub finish_meets : (end : Finished) (next : UsbOperation) (told : Told Reply) (out : List ℕ) → FinishMeets end told
+    → StepMeets (record { step = finished_by end.answer; beside = end.beside; next = next }) out out (does (finished_told told) [] next)
+finish_meets end next told out m = record {
+  tells = passed_on end.answer end.beside ∙ ap finished_told m.tells;
+  beside = m.beside ∙ beside_finished told;
+  next = refl;
+  leaves = refl;
+}
 
 pub give_22 : (op : UsbOperation) (bytes : List ℕ) (lent : ℕ) → give_of asked.Nothing op bytes lent ≡ keeps op 22 []
 unfolding give_of or_refuse nothing_asked

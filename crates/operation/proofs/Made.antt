@@ -27,7 +27,6 @@ use Rattle.operation.specs.declared.steps.Asked.{Asked}
 use Rattle.operation.specs.declared.steps.Asked.TheVariants as asked
 use Rattle.operation.specs.declared.steps.UsbOperation.{UsbOperation}
 use Rattle.operation.specs.declared.steps.UsbStepped.{UsbStepped}
-use Rattle.operation.specs.declared.giving.Giving.TheVariants.{Taken}
 use Rattle.operation.specs.declared.giving.UsbGiven.{UsbGiven}
 use Rattle.operation.specs.declared.starts.UsbStart.{UsbStart}
 use Rattle.operation.specs.Record.{fresh, io_of, transfer_length, after_command, turned, commanded}
@@ -36,6 +35,7 @@ use Rattle.operation.specs.Give.{Give, keeps, nothing_asked, asks_for, received,
 use Rattle.operation.specs.Start.{StartMeets}
 use Rattle.operation.specs.Made.{kind_direction, Agrees, Starts, chip_info_lem, flash_id_lem, flash_info_lem, capability, storage, erase_lba_lem, erase_force_lem, reset_device_lem, switch_storage_lem, read_lba_lem, write_lba_lem, Made, at_first, stepped, gave, read_by, MayAsk, Stands, asked_in, just_asked}
 use Rattle.operation.proofs.Cases.{command_bytes_long}
+use Rattle.std.specs.declared.result.Result.TheVariants.{Ok}
 
 -- what each start's contract says of the record that it hands out
 pub eleven_starts : (r : UsbOperation) (s : UsbStart) (tag first count size : ℕ) (opcode : ResetOpcode) (index : StorageIndex)
@@ -263,7 +263,7 @@ received_asks asked.Status op bytes e = refl
 
 -- and behind a giving that was taken nothing, at every record
 pub given_once : (op : UsbOperation) (r : UsbGiven) (bytes before after : List ℕ) → GiveMeets r before after (usb_give op bytes (length before))
-    → r.answer ≡ Taken → r.next.asked ≡ asked.Nothing
+    → r.answer ≡ (Ok tt) → r.next.asked ≡ asked.Nothing
 unfolding give_of giving_told
 given_once op r bytes before after meets taken =
     let told : (usb_give op bytes (length before)).told ≡ given tt = sym meets.tells ∙ ap giving_told taken in

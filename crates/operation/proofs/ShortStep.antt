@@ -20,7 +20,6 @@ use Rattle.operation_finish.specs.declared.ShortTransfer.{ShortTransfer}
 use Rattle.operation_finish.specs.declared.SectorTransfer.{SectorTransfer}
 use Rattle.operation_finish.specs.declared.SectorTransfer.TheVariants.{Whole, Short}
 use Rattle.operation_finish.specs.declared.UsbReply.TheVariants as usb
-use Rattle.operation_finish.specs.declared.FinishAnswer.TheVariants.{Replied, Failed}
 use Rattle.operation_finish.specs.Transfer.{bytes, whole, short}
 use Rattle.operation_finish.specs.Reply.{Reply, moved, reply_given, finish_told}
 use Rattle.operation_finish.specs.Finish.{sector_reply, finishes}
@@ -36,7 +35,6 @@ use Rattle.operation.specs.declared.steps.Asked.{Asked}
 use Rattle.operation.specs.declared.steps.Asked.TheVariants as asked
 use Rattle.operation.specs.declared.steps.UsbOperation.{UsbOperation}
 use Rattle.operation.specs.declared.giving.UsbGiven.{UsbGiven}
-use Rattle.operation.specs.declared.steps.UsbStep.{UsbStep}
 use Rattle.operation.specs.declared.steps.UsbStep.TheVariants as step
 use Rattle.operation.specs.declared.steps.UsbStepped.{UsbStepped}
 use Rattle.operation.specs.Record.{io_of, transfer_length}
@@ -47,6 +45,11 @@ use Rattle.operation.proofs.Cases.{give_taken}
 use Rattle.operation.proofs.Short.{out_succeeds}
 use Rattle.operation.proofs.Laws.{at_finish_lem}
 use Rattle.operation.proofs.Unique.{step_for, step_for_lem}
+use Rattle.std.specs.declared.result.Result.TheVariants.{Ok, Err}
+use Rattle.std.specs.Prelude.{Result}
+use Rattle.operation.specs.declared.steps.UsbStep.{UsbStep}
+use Rattle.operation.specs.declared.steps.StepError.{StepError}
+use Rattle.operation.specs.declared.steps.StepError.TheVariants as step_error
 
 -- no other step answers a finish
 abbrev Unfinished : Reply → Step → Type 0
@@ -85,17 +88,17 @@ module _ (op : UsbOperation) (lent : ℕ) (before after : List ℕ) (r : UsbStep
   told_finish here = ap (λ (s : Step). s.told) (at_finish_lem op lent (length before) here)
 
   -- what is behind an answer that tells of sectors
-  told_sectors : (transfer : SectorTransfer) → r.step ≡ step.Finished (Replied (usb.Sectors transfer))
+  told_sectors : (transfer : SectorTransfer) → r.step ≡ Ok (step.Finished (usb.Sectors transfer))
       → (op.next ≡ operation.Finish) × (its_finish ≡ given (moved transfer))
   unfolding step_told finish_told reply_given finished_told and_then
   told_sectors transfer e =
       let told : (usb_step op lent (length before)).told ≡ given (finished (moved transfer)) =
-      sym meets.tells ∙ ap (λ (x : UsbStep). step_told x r.beside) e in
+      sym meets.tells ∙ ap (λ (x : Result UsbStep StepError). step_told x r.beside) e in
       let here = at_the_finish op.next op lent (length before) (moved transfer) told in
       (here, finished_is its_finish (moved transfer) (sym (told_finish here) ∙ told))
 
   -- SHORT only at the finish, behind a success with its own tag that leaves 1 byte at least and no more than was asked
-  pub step_told_short : (s : ShortTransfer) → r.step ≡ step.Finished (Replied (usb.Sectors (Short s)))
+  pub step_told_short : (s : ShortTransfer) → r.step ≡ Ok (step.Finished (usb.Sectors (Short s)))
       → (op.next ≡ operation.Finish) × (report : CommandStatus) × Ended op.kind op.command.tag op.command_bytes report
       × (0 < report.residue) × (report.residue ≤ transfer_length op) × (s.moved ≡ bytes (transfer_length op - report.residue)) × (s.asked ≡ bytes (transfer_length op))
   step_told_short s e =
@@ -104,7 +107,7 @@ module _ (op : UsbOperation) (lent : ℕ) (before after : List ℕ) (r : UsbStep
       let only = short_only (transfer_length op) b.0.residue s b.2 in (told.0, b.0, b.1, only.0, only.1, only.2, only.3)
 
   -- WHOLE only at the finish, behind a success with its own tag that leaves nothing
-  pub step_told_whole : (count : Transferred) → r.step ≡ step.Finished (Replied (usb.Sectors (Whole count)))
+  pub step_told_whole : (count : Transferred) → r.step ≡ Ok (step.Finished (usb.Sectors (Whole count)))
       → (op.next ≡ operation.Finish) × (report : CommandStatus) × Ended op.kind op.command.tag op.command_bytes report
       × (report.residue ≡ 0) × (count ≡ bytes (transfer_length op))
   step_told_whole count e =
@@ -120,15 +123,15 @@ module _ (op : UsbOperation) (lent : ℕ) (before after : List ℕ) (r : UsbStep
         ∙ ap step_for (meets.tells ∙ told_finish here ∙ ap finished_told (finish_ended op.kind op.command.tag (transfer_length op) op.command_bytes op.«data» report ended ∙ e))
 
     pub step_tells_short : 0 < report.residue → report.residue ≤ transfer_length op
-        → r.step ≡ step.Finished (Replied (usb.Sectors (short (transfer_length op - report.residue) (transfer_length op))))
+        → r.step ≡ Ok (step.Finished (usb.Sectors (short (transfer_length op - report.residue) (transfer_length op))))
     unfolding finished_told and_then
     step_tells_short some few = tells_as _ (sectors_short (transfer_length op) report.residue some few)
 
-    pub step_tells_whole : report.residue ≡ 0 → r.step ≡ step.Finished (Replied (usb.Sectors (whole (transfer_length op))))
+    pub step_tells_whole : report.residue ≡ 0 → r.step ≡ Ok (step.Finished (usb.Sectors (whole (transfer_length op))))
     unfolding finished_told and_then
     step_tells_whole none = tells_as _ (sectors_whole (transfer_length op) report.residue none)
 
-    pub step_tells_14 : transfer_length op < report.residue → r.step ≡ step.Finished (Failed ReplyParseFailure)
+    pub step_tells_14 : transfer_length op < report.residue → r.step ≡ Err (step_error.Failed ReplyParseFailure)
     unfolding finished_told and_then
     step_tells_14 more = tells_as _ (sectors_14 (transfer_length op) report.residue more)
 
@@ -148,7 +151,7 @@ give_usbs_alone op before after r status out meets =
 -- the finish of a write of at least one sector then tells 0 of what was asked
 pub step_usbs_alone : (op : UsbOperation) (lent : ℕ) (before after : List ℕ) (r : UsbStepped) → StepMeets r before after (usb_step op lent (length before))
     → op.next ≡ operation.Finish → op.kind ≡ kind.Write → op.command.flags ≡ Out → StatusFits (nothing_moved op.command)
-    → op.command_bytes ≡ usbs_alone op.command → 0 < transfer_length op → r.step ≡ step.Finished (Replied (usb.Sectors (short 0 (transfer_length op))))
+    → op.command_bytes ≡ usbs_alone op.command → 0 < transfer_length op → r.step ≡ Ok (step.Finished (usb.Sectors (short 0 (transfer_length op))))
 step_usbs_alone op lent before after r meets here write out fits alone some =
     let l = transfer_length op in
     let ended : Ended op.kind op.command.tag op.command_bytes (nothing_moved op.command) =
@@ -160,4 +163,4 @@ step_usbs_alone op lent before after r meets here write out fits alone some =
     } in
     let none : l - l ≡ 0 = omega arith in
     step_tells_short op lent before after r meets here (nothing_moved op.command) ended some (omega arith)
-    ∙ ap (λ (n : ℕ). step.Finished (Replied (usb.Sectors (short n l)))) none
+    ∙ ap (λ (n : ℕ). Ok (step.Finished (usb.Sectors (short n l)))) none

@@ -19,12 +19,14 @@ use Rattle.operation.specs.declared.steps.Asked.TheVariants as asked
 use Rattle.operation.specs.declared.steps.UsbOperation.{UsbOperation}
 use Rattle.operation.specs.declared.steps.UsbStep.TheVariants as step
 use Rattle.operation.specs.declared.steps.UsbStepped.{UsbStepped}
-use Rattle.operation.specs.declared.giving.Giving.TheVariants as giving
 use Rattle.operation.specs.declared.giving.UsbGiven.{UsbGiven}
 use Rattle.operation.specs.Record.{fresh, after_command, turned, with_status}
 use Rattle.operation.specs.Step.{writes_command, Step, step_of, usb_step, step_told, StepMeets}
 use Rattle.operation.specs.Give.{Give, nothing_asked, asks_for, owed, received, usb_give, giving_told, GiveMeets}
 use Rattle.operation.proofs.Cases.{command_short, command_out_lem, give_taken}
+use Rattle.std.specs.declared.result.Result.TheVariants.{Ok, Err}
+use Rattle.operation.specs.declared.steps.StepError.TheVariants as step_error
+use Rattle.operation.specs.declared.giving.GivingError.TheVariants as giving_error
 
 -- a start that leaves bytes of an earlier command
 pub bytes_left_over : (k : Kind) (c : CommandBlock) (r : UsbOperation) → r ≡ fresh k c → r.command_bytes ≡ replicate 13 1 → ⊥
@@ -121,21 +123,21 @@ module _ (r : UsbGiven) (after : List ℕ) where
       let z : ◌≡◌ {A = ℕ} 0 1 = ap (λ (l : List ℕ). get_or l 0 0) (sym e ∙ meets.leaves ∙ ap (λ (g : Give). front g.sent (0 ∷ [])) byte_taken) in omega arith
 
 -- one number for every refusal of a step
-pub one_number_for_all : (n : ℕ) (b : Beside) → n ≡ number (step_told step.OutputTooShort b) → n ≡ number (step_told step.DataDiffers b) → ⊥
+pub one_number_for_all : (n : ℕ) (b : Beside) → n ≡ number (step_told (Err step_error.OutputTooShort) b) → n ≡ number (step_told (Err step_error.DataDiffers) b) → ⊥
 unfolding number step_told
 one_number_for_all n b e f = omega arith
 
 -- a read that is asked for told as a refusal
-pub asked_a_refusal : (n size : ℕ) (b : Beside) → n ≡ number (step_told (step.ReadStatus size) b) → 1 ≤ n → ⊥
+pub asked_a_refusal : (n size : ℕ) (b : Beside) → n ≡ number (step_told (Ok (step.ReadStatus size)) b) → 1 ≤ n → ⊥
 unfolding number step_told
 asked_a_refusal n size b e f = omega arith
 
 -- 22 told as 21
-pub not_asked_too_many : (n : ℕ) → n ≡ number (giving_told giving.NotAsked) → n ≡ 21 → ⊥
+pub not_asked_too_many : (n : ℕ) → n ≡ number (giving_told (Err giving_error.NotAsked)) → n ≡ 21 → ⊥
 unfolding number giving_told
 not_asked_too_many n e f = omega arith
 
 -- bytes that are taken told as a refusal
-pub taken_a_refusal : (n : ℕ) → n ≡ number (giving_told giving.Taken) → 1 ≤ n → ⊥
+pub taken_a_refusal : (n : ℕ) → n ≡ number (giving_told (Ok tt)) → 1 ≤ n → ⊥
 unfolding number giving_told
 taken_a_refusal n e f = omega arith

@@ -6,12 +6,14 @@ use Rattle.promise.specs.Bytes.{front}
 use Rattle.operation.specs.declared.steps.Asked.{Asked}
 use Rattle.operation.specs.declared.steps.Asked.TheVariants as asked
 use Rattle.operation.specs.declared.steps.UsbOperation.{UsbOperation}
-use Rattle.operation.specs.declared.giving.Giving.{Giving}
-use Rattle.operation.specs.declared.giving.Giving.TheVariants as giving
 use Rattle.operation.specs.declared.giving.UsbGiven.{UsbGiven}
 use Rattle.operation.specs.Record.{status_size, transfer_length, inband_length, turned, with_status, with_inband}
 use Rattle.operation.specs.Step.{data_rule}
 use Rattle.promise.specs.Does.{Puts}
+use Rattle.std.specs.Prelude.{Result}
+use Rattle.operation.specs.declared.giving.GivingError.{GivingError}
+use Rattle.std.specs.declared.result.Result.TheVariants.{Ok, Err}
+use Rattle.operation.specs.declared.giving.GivingError.TheVariants.{NotAsked, TooMany, DataDiffers}
 
 -- what a giving tells, the bytes that it puts at the front of the caller's data, and the record that it hands back
 abbrev pub Give : Type 0
@@ -71,12 +73,17 @@ give_of asked op bytes lent =
 abbrev pub usb_give : UsbOperation → List ℕ → ℕ → Give
 usb_give op bytes lent = give_of op.asked op bytes lent
 
+abbrev pub giving_error_number : GivingError → ℕ
+giving_error_number NotAsked = not_asked
+giving_error_number TooMany = too_many
+giving_error_number DataDiffers = differs
+
 -- number and values of every answer
-unfoldable pub giving_told : Giving → Told Unit
-giving_told giving.Taken = given tt
-giving_told giving.NotAsked = refused not_asked []
-giving_told giving.TooMany = refused too_many []
-giving_told giving.DataDiffers = refused differs []
+unfoldable pub giving_told : Result Unit GivingError → Told Unit
+giving_told (Ok u) = given tt
+giving_told (Err NotAsked) = refused not_asked []
+giving_told (Err TooMany) = refused too_many []
+giving_told (Err DataDiffers) = refused differs []
 
 -- a giving that answers r and leaves the caller's data `after`, where it was `before`
 pub record GiveMeets (r : UsbGiven) (before after : List ℕ) (g : Give) : Type 0 where

@@ -3,9 +3,10 @@ use Rattle.std.specs.Prelude.{ℕ, ◌≡◌, List, [], ◌∷◌, ltb}
 use Rattle.promise.specs.Told.{Told, given, refused, and_then}
 use Rattle.promise.specs.Rules.{Rule, or_refuse, differs, lent_rule, room_rule, too_short}
 use Rattle.promise.specs.Bytes.{front}
+use Rattle.protocol_status.specs.Failure.{failure_number, failure_told}
 use Rattle.protocol_bytes.specs.Signature.{no_signature}
 use Rattle.protocol.specs.CommandBytes.{command_length}
-use Rattle.operation_finish.specs.Reply.{Reply, blank, finish_told, beside_of}
+use Rattle.operation_finish.specs.Reply.{Reply, blank, reply_given, beside_of}
 use Rattle.operation_finish.specs.Finish.{finishes}
 use Rattle.operation_finish.specs.declared.Beside.{Beside}
 use Rattle.operation.specs.declared.steps.Operation.{Operation}
@@ -15,11 +16,15 @@ use Rattle.operation.specs.declared.steps.IOBytes.TheVariants as io
 use Rattle.operation.specs.declared.steps.Asked.{Asked}
 use Rattle.operation.specs.declared.steps.Asked.TheVariants as asked
 use Rattle.operation.specs.declared.steps.UsbOperation.{UsbOperation}
-use Rattle.operation.specs.declared.steps.UsbStep.{UsbStep}
 use Rattle.operation.specs.declared.steps.UsbStep.TheVariants as step
 use Rattle.operation.specs.declared.steps.UsbStepped.{UsbStepped}
 use Rattle.operation.specs.Record.{io_of, status_size, transfer_length, inband_length, turned, commanded, command_out}
 use Rattle.promise.specs.Does.{Puts}
+use Rattle.std.specs.Prelude.{Result}
+use Rattle.operation.specs.declared.steps.UsbStep.{UsbStep}
+use Rattle.operation.specs.declared.steps.StepError.{StepError}
+use Rattle.std.specs.declared.result.Result.TheVariants.{Ok, Err}
+use Rattle.operation.specs.declared.steps.StepError.TheVariants.{Failed, OutputTooShort, DataDiffers}
 
 -- what a step that is not refused asks for: a bulk write of the first 31 output bytes or of that many of the caller's data, a bulk read of that many
 -- bytes for what was asked, or nothing any more
@@ -84,16 +89,22 @@ step_of operation.Finish op lent room = finish_step op
 abbrev pub usb_step : UsbOperation → ℕ → ℕ → Step
 usb_step op lent room = step_of op.next op lent room
 
+abbrev pub step_error_number : StepError → ℕ
+step_error_number (Failed error) = failure_number error
+step_error_number OutputTooShort = too_short
+step_error_number DataDiffers = differs
+
 -- number and values of every answer
-unfoldable pub step_told : UsbStep → Beside → Told Asks
-step_told step.WriteCommand b = given writes_command
-step_told (step.WriteData n) b = given (writes_data n)
-step_told (step.ReadInband n) b = given (reads asked.Inband n)
-step_told (step.ReadData n) b = given (reads asked.Sectors n)
-step_told (step.ReadStatus n) b = given (reads asked.Status n)
-step_told (step.Finished answer) b = finished_told (finish_told answer b)
-step_told step.OutputTooShort b = refused too_short []
-step_told step.DataDiffers b = refused differs []
+unfoldable pub step_told : Result UsbStep StepError → Beside → Told Asks
+step_told (Ok step.WriteCommand) b = given writes_command
+step_told (Ok (step.WriteData n)) b = given (writes_data n)
+step_told (Ok (step.ReadInband n)) b = given (reads asked.Inband n)
+step_told (Ok (step.ReadData n)) b = given (reads asked.Sectors n)
+step_told (Ok (step.ReadStatus n)) b = given (reads asked.Status n)
+step_told (Ok (step.Finished reply)) b = given (finished (reply_given reply b))
+step_told (Err (Failed error)) b = failure_told error b.signature
+step_told (Err OutputTooShort) b = refused too_short []
+step_told (Err DataDiffers) b = refused differs []
 
 unfoldable pub beside_asks : Asks → Beside
 beside_asks writes_command = blank no_signature

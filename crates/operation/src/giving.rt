@@ -1,16 +1,15 @@
 // Received bytes, for the read that the last step asked for.
 ghost use Rattle.std.specs.Prelude.{◌≡◌, List, ℕ, length};
-ghost use Rattle.promise.specs.Told.{number};
 ghost use Rattle.operation.specs.Record.{with_inband};
 ghost use Rattle.operation.specs.Code.{gave};
-ghost use Rattle.operation.specs.Give.{giving_told, GiveMeets, give_of, usb_give};
+ghost use Rattle.operation.specs.Give.{giving_error_number, GiveMeets, give_of, usb_give};
 
-use crate::steps::{Asked, INBAND, STATUS, UsbOperation, least};
-use lent_bytes;
+use crate::steps::{Asked, INBAND, STATUS, UsbOperation};
+use rule_number::RuleNumber;
 
-#[derive(Clone, Copy)]
-pub enum Giving {
-    Taken,
+// Why received bytes are not taken.
+#[derive(Clone, Copy, Debug, PartialEq, Eq)]
+pub enum GivingError {
     // 22
     NotAsked,
     // 21
@@ -19,24 +18,21 @@ pub enum Giving {
     DataDiffers,
 }
 
-impl Giving {
-    // Its number in the rules, 0 where the bytes were taken.
-    #[tactic(auto, unfolding(promise::specs::Told::number, crate::specs::Give::giving_told))]
-    pub fn number(self) -> u8
-        ensures { result ≡ number (giving_told self) }
-    {
+impl RuleNumber for GivingError {
+    ghost rule_number = { giving_error_number };
+
+    fn number(self) -> u8 {
         match self {
-            Giving::Taken => 0,
-            Giving::NotAsked => 22,
-            Giving::TooMany => 21,
-            Giving::DataDiffers => 27,
+            GivingError::NotAsked => 22,
+            GivingError::TooMany => 21,
+            GivingError::DataDiffers => 27,
         }
     }
 }
 
 #[derive(Clone, Copy)]
 pub struct UsbGiven {
-    pub answer: Giving,
+    pub answer: Result<(), GivingError>,
     pub next: UsbOperation,
 }
 
@@ -46,11 +42,11 @@ impl UsbOperation {
         ensures { result ≡ with_inband self «data» }
     {
         self.data = data;
-        let next = self.next;
-        self.turned_to(next, Asked::Nothing)
+        self.asked = Asked::Nothing;
+        self
     }
 
-    fn gives(self, answer: Giving) -> UsbGiven
+    fn gives(self, answer: Result<(), GivingError>) -> UsbGiven
         ensures { result ≡ gave answer self }
     {
         UsbGiven { answer, next: self }
@@ -60,12 +56,12 @@ impl UsbOperation {
     fn give_inband(self, bytes: &[u8]) -> UsbGiven
         ensures { (lent : List ℕ) → GiveMeets result lent lent (give_of Asked.Inband self bytes.now (length lent)) }
     {
-        if least(self.command.transfer_length as usize, INBAND) < bytes.len() {
-            return self.gives(Giving::TooMany);
+        if (self.command.transfer_length as usize).min(INBAND) < bytes.len() {
+            return self.gives(Err(GivingError::TooMany));
         }
         let mut data = self.data;
-        lent_bytes::copy(bytes, &mut data);
-        self.with_inband(data).gives(Giving::Taken)
+        data[..bytes.len()].copy_from_slice(bytes);
+        self.with_inband(data).gives(Ok(()))
     }
 
     #[tactic(auto, unfolding(crate::specs::Give::give_of, crate::specs::Give::nothing_asked, crate::specs::Give::asks_for, crate::specs::Give::owed, crate::specs::Give::received, crate::specs::Give::giving_told, promise::specs::Rules::or_refuse))]
@@ -74,14 +70,14 @@ impl UsbOperation {
     {
         let length = self.command.transfer_length as usize;
         if length < bytes.len() {
-            return self.gives(Giving::TooMany);
+            return self.gives(Err(GivingError::TooMany));
         }
         if data.len() < length {
-            return self.gives(Giving::DataDiffers);
+            return self.gives(Err(GivingError::DataDiffers));
         }
-        lent_bytes::copy(bytes, data);
+        data[..bytes.len()].copy_from_slice(bytes);
         let next = self.next;
-        self.turned_to(next, Asked::Nothing).gives(Giving::Taken)
+        self.turned_to(next, Asked::Nothing).gives(Ok(()))
     }
 
     #[tactic(auto, unfolding(crate::specs::Give::give_of, crate::specs::Give::nothing_asked, crate::specs::Give::asks_for, crate::specs::Give::owed, crate::specs::Give::received, crate::specs::Give::giving_told, promise::specs::Rules::or_refuse))]
@@ -89,11 +85,11 @@ impl UsbOperation {
         ensures { (lent : List ℕ) → GiveMeets result lent lent (give_of Asked.Status self bytes.now (length lent)) }
     {
         if STATUS < bytes.len() {
-            return self.gives(Giving::TooMany);
+            return self.gives(Err(GivingError::TooMany));
         }
         let mut command_bytes = self.command_bytes;
-        lent_bytes::copy(bytes, &mut command_bytes);
-        self.with_status(command_bytes).gives(Giving::Taken)
+        command_bytes[..bytes.len()].copy_from_slice(bytes);
+        self.with_status(command_bytes).gives(Ok(()))
     }
 
     // Received bytes, for the read that the last step asked for. A sector read's go into the caller's data.
@@ -101,9 +97,8 @@ impl UsbOperation {
     pub fn give(self, bytes: &[u8], data: &mut [u8]) -> UsbGiven
         ensures { GiveMeets result «data».old «data».new (usb_give self bytes.now (length «data».old)) }
     {
-        let asked = self.asked;
-        match asked {
-            Asked::Nothing => self.gives(Giving::NotAsked),
+        match self.asked {
+            Asked::Nothing => self.gives(Err(GivingError::NotAsked)),
             Asked::Inband => self.give_inband(bytes),
             Asked::Sectors => self.give_sectors(bytes, data),
             Asked::Status => self.give_status(bytes),

@@ -9,12 +9,12 @@ use crate::steps::UsbOperation;
 use operation_finish::Kind;
 use protocol::CommandBlock;
 use protocol_codes::{ResetOpcode, StorageIndex};
-use protocol_reply::size::{SectorAnswer, sector_count};
+use protocol_reply::size::{SectorCount, SectorError, sector_count};
 
 // How many sectors the data has, or 23 or 24 with an operation of length 0.
 #[derive(Clone, Copy)]
 pub struct UsbStart {
-    pub answer: SectorAnswer,
+    pub answer: Result<SectorCount, SectorError>,
     pub operation: UsbOperation,
 }
 
@@ -74,10 +74,10 @@ pub fn switch_storage(tag: u32, index: StorageIndex) -> UsbOperation
 
 // A refusal stands beside an operation over no sectors.
 #[tactic(auto, unfolding(crate::specs::Start::sectors_or0, protocol_reply::specs::Sectors::sector_told))]
-fn sectors_or_0(answer: SectorAnswer) -> u16
+fn sectors_or_0(answer: Result<SectorCount, SectorError>) -> u16
     ensures { result ≡ sectors_or0 (sector_told answer) }
 {
-    let SectorAnswer::Count(sectors) = answer else {
+    let Ok(sectors) = answer else {
         return 0;
     };
     sectors.0

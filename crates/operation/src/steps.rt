@@ -1,15 +1,14 @@
 // One USB operation, step by step: the command out, data if there is any, the status in, the finish; then it starts again.
-ghost use Rattle.std.specs.Prelude.{◌≡◌, List, ◌++◌, ℕ, min, ◌≤◌, length, take, drop, replicate};
-ghost use Rattle.promise.specs.Told.{number};
-ghost use Rattle.operation_finish.specs.declared.Beside.{Beside};
+ghost use Rattle.std.specs.Prelude.{◌≡◌, List, ◌++◌, ℕ, ◌≤◌, length, take, drop, replicate};
+ghost use Rattle.operation.specs.declared.steps.StepError.TheVariants.{Failed};
 ghost use Rattle.operation.specs.Record.{fresh, io_of, after_command, turned, with_status};
-ghost use Rattle.operation.specs.Step.{step_told, StepMeets, command_step, io_step, status_step, finish_step, usb_step};
-ghost use Rattle.operation.specs.Code.{plain, sectored};
+ghost use Rattle.operation.specs.Step.{step_error_number, StepMeets, command_step, io_step, status_step, finish_step, usb_step};
+ghost use Rattle.operation.specs.Code.{finished_by, plain, sectored};
 
-use lent_bytes;
-use operation_finish::{Beside, FinishAnswer, Kind, finish_of};
+use operation_finish::{Beside, Kind, UsbReply, finish_of};
 use protocol::CommandBlock;
-use protocol_bytes::output::Written;
+use protocol_status::failure::UsbOperationError;
+use rule_number::{OutputTooShort, RuleNumber};
 
 // Where an operation stands: what its next step does.
 #[derive(Clone, Copy)]
@@ -59,35 +58,43 @@ pub enum UsbStep {
     ReadInband(usize),
     ReadData(usize),
     ReadStatus(usize),
-    Finished(FinishAnswer),
+    Finished(UsbReply),
+}
+
+// Why a step asks for nothing.
+#[derive(Clone, Copy, Debug, PartialEq, Eq)]
+pub enum StepError {
+    // 10 to 15, at the finish
+    Failed(UsbOperationError),
     // 20
     OutputTooShort,
     // 27
     DataDiffers,
 }
 
-impl UsbStep {
-    // Its number in the rules: 0 for what a step asks for and for a reply.
-    #[tactic(auto, using(crate::proofs::Numbered::finished_number), unfolding(promise::specs::Told::number, crate::specs::Step::step_told))]
-    pub fn number(self) -> u8
-        ensures { (b : Beside) → result ≡ number (step_told self b) }
-    {
+impl From<UsbOperationError> for StepError {
+    ghost from_gives = { λ error step. step ≡ Failed error };
+
+    fn from(error: UsbOperationError) -> StepError {
+        StepError::Failed(error)
+    }
+}
+
+impl RuleNumber for StepError {
+    ghost rule_number = { step_error_number };
+
+    fn number(self) -> u8 {
         match self {
-            UsbStep::WriteCommand => 0,
-            UsbStep::WriteData(_) => 0,
-            UsbStep::ReadInband(_) => 0,
-            UsbStep::ReadData(_) => 0,
-            UsbStep::ReadStatus(_) => 0,
-            UsbStep::Finished(answer) => answer.number(),
-            UsbStep::OutputTooShort => 20,
-            UsbStep::DataDiffers => 27,
+            StepError::Failed(error) => error.number(),
+            StepError::OutputTooShort => 20,
+            StepError::DataDiffers => 27,
         }
     }
 }
 
 #[derive(Clone, Copy)]
 pub struct UsbStepped {
-    pub step: UsbStep,
+    pub step: Result<UsbStep, StepError>,
     pub beside: Beside,
     pub next: UsbOperation,
 }
@@ -96,24 +103,13 @@ pub(crate) const INBAND: usize = 16;
 
 pub(crate) const STATUS: usize = 13;
 
-pub(crate) fn least(a: usize, b: usize) -> usize
-    ensures { result ≡ min a b }
-{
-    if a < b { a } else { b }
-}
-
 fn io_of(kind: Kind) -> IOBytes
     ensures { result ≡ io_of kind }
 {
     match kind {
-        Kind::ChipInfo => IOBytes::Inband,
-        Kind::FlashId => IOBytes::Inband,
-        Kind::FlashInfo => IOBytes::Inband,
-        Kind::Capability => IOBytes::Inband,
-        Kind::Nothing => IOBytes::Inband,
-        Kind::Storage => IOBytes::Inband,
         Kind::Read => IOBytes::Read,
         Kind::Write => IOBytes::Write,
+        _ => IOBytes::Inband,
     }
 }
 
@@ -128,13 +124,19 @@ fn after_command(length: u32) -> Operation
     Operation::IO
 }
 
+// The finish's answer, passed on.
+fn finished(answer: Result<UsbReply, UsbOperationError>) -> Result<UsbStep, StepError>
+    ensures { result ≡ finished_by answer }
+{
+    Ok(UsbStep::Finished(answer?))
+}
+
 // Bytes 24 to 30 of the command, which its writer leaves alone.
-fn zero_tail(out: &mut [u8]) -> usize
+fn zero_tail(out: &mut [u8])
     requires { 31 ≤ length out.old }
     ensures { out.new ≡ take 24 out.old ++ (replicate 7 0 ++ drop 31 out.old) }
 {
-    let zeros = [0u8; 7];
-    lent_bytes::copy(&zeros, &mut out[24..])
+    out[24..31].fill(0);
 }
 
 fn first_13(out: &[u8]) -> [u8; 13]
@@ -142,7 +144,7 @@ fn first_13(out: &[u8]) -> [u8; 13]
     ensures { result ≡ take 13 out.now }
 {
     let mut first = [0u8; 13];
-    lent_bytes::copy(&out[..13], &mut first);
+    first.copy_from_slice(&out[..13]);
     first
 }
 
@@ -163,21 +165,12 @@ impl UsbOperation {
         }
     }
 
-    pub(crate) fn turned_to(self, next: Operation, asked: Asked) -> UsbOperation
+    pub(crate) fn turned_to(mut self, next: Operation, asked: Asked) -> UsbOperation
         ensures { result ≡ turned self next asked }
     {
-        let kind = self.kind;
-        let command = self.command;
-        let command_bytes = self.command_bytes;
-        let data = self.data;
-        UsbOperation {
-            kind,
-            command,
-            command_bytes,
-            data,
-            next,
-            asked,
-        }
+        self.next = next;
+        self.asked = asked;
+        self
     }
 
     // The status is given.
@@ -185,12 +178,12 @@ impl UsbOperation {
         ensures { result ≡ with_status self command_bytes }
     {
         self.command_bytes = command_bytes;
-        let next = self.next;
-        self.turned_to(next, Asked::Nothing)
+        self.asked = Asked::Nothing;
+        self
     }
 
     // An answer with nothing beside it.
-    fn answers(self, step: UsbStep) -> UsbStepped
+    fn answers(self, step: Result<UsbStep, StepError>) -> UsbStepped
         ensures { result ≡ plain step self }
     {
         let beside = Beside::blank([0, 0, 0, 0]);
@@ -205,15 +198,15 @@ impl UsbOperation {
         ensures { StepMeets result out.old out.new (command_step self (length out.old)) }
     {
         let command = self.command;
-        let Written::Bytes(_) = command.to_bytes(out) else {
-            return self.answers(UsbStep::OutputTooShort);
+        let Ok(_) = command.to_bytes(out) else {
+            return self.answers(Err(StepError::OutputTooShort));
         };
         zero_tail(out);
         let command_bytes = first_13(out);
         let next = after_command(command.transfer_length);
         self.with_status(command_bytes)
             .turned_to(next, Asked::Nothing)
-            .answers(UsbStep::WriteCommand)
+            .answers(Ok(UsbStep::WriteCommand))
     }
 
     // The data step over the caller's data.
@@ -221,10 +214,10 @@ impl UsbOperation {
         ensures { result ≡ sectored self lent step asked }
     {
         if lent < (self.command.transfer_length as usize) {
-            return self.answers(UsbStep::DataDiffers);
+            return self.answers(Err(StepError::DataDiffers));
         }
         self.turned_to(Operation::CommandStatus, asked)
-            .answers(step)
+            .answers(Ok(step))
     }
 
     #[tactic(auto, unfolding(crate::specs::Step::io_step, crate::specs::Step::step_told, crate::specs::Step::beside_at, crate::specs::Step::beside_asks, promise::specs::Rules::or_refuse, operation_finish::specs::Reply::beside_of, protocol_bytes::specs::Signature::signature_in))]
@@ -232,11 +225,9 @@ impl UsbOperation {
         ensures { (out : List ℕ) → StepMeets result out out (io_step (io_of self.kind) self lent) }
     {
         let length = self.command.transfer_length as usize;
-        let kind = self.kind;
-        let io = io_of(kind);
-        match io {
+        match io_of(self.kind) {
             IOBytes::Inband => {
-                let step = UsbStep::ReadInband(least(length, INBAND));
+                let step = Ok(UsbStep::ReadInband(length.min(INBAND)));
                 self.turned_to(Operation::CommandStatus, Asked::Inband)
                     .answers(step)
             }
@@ -250,30 +241,24 @@ impl UsbOperation {
         ensures { (out : List ℕ) → StepMeets result out out (status_step self) }
     {
         self.turned_to(Operation::Finish, Asked::Status)
-            .answers(UsbStep::ReadStatus(STATUS))
+            .answers(Ok(UsbStep::ReadStatus(STATUS)))
     }
 
     #[tactic(auto, using(crate::proofs::Cases::finish_meets), unfolding(crate::specs::Step::finish_step, crate::specs::Step::step_told))]
     fn finish_step(self) -> UsbStepped
         ensures { (out : List ℕ) → StepMeets result out out (finish_step self) }
     {
-        let kind = self.kind;
-        let status = self.command_bytes;
-        let inband = self.data;
         let end = finish_of(
-            kind,
+            self.kind,
             self.command.tag,
             self.command.transfer_length,
-            status,
-            inband,
+            self.command_bytes,
+            self.data,
         );
-        let answer = end.answer;
-        let beside = end.beside;
-        let next = self.turned_to(Operation::CommandBlock, Asked::Nothing);
         UsbStepped {
-            step: UsbStep::Finished(answer),
-            beside,
-            next,
+            step: finished(end.answer),
+            beside: end.beside,
+            next: self.turned_to(Operation::CommandBlock, Asked::Nothing),
         }
     }
 
@@ -282,8 +267,7 @@ impl UsbOperation {
     pub fn step(self, data: &[u8], out: &mut [u8]) -> UsbStepped
         ensures { StepMeets result out.old out.new (usb_step self (length «data».now) (length out.old)) }
     {
-        let next = self.next;
-        match next {
+        match self.next {
             Operation::CommandBlock => self.command_step(out),
             Operation::IO => self.io_step(data.len()),
             Operation::CommandStatus => self.status_step(),

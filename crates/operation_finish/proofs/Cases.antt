@@ -2,7 +2,6 @@
 use Prim.Native.Nat.{ℕ, ◌-◌, ◌<◌, ◌≤◌}
 use mathlib.Core.Path.{◌≡◌, refl, ap, sym, ◌∙◌}
 use mathlib.Core.List.{List, []}
-use lib.ListN.{take}
 use borrow.Author.Tests.{eq-eqb, ne_eqb}
 use Rattle.promise.specs.Told.{Told, given, refused, and_then}
 use Rattle.promise.specs.Rules.{or_refuse}
@@ -14,19 +13,17 @@ use Rattle.protocol_status.specs.Failure.{failure_number, failure_values, failur
 use Rattle.protocol_status.specs.declared.report.CommandStatus.{CommandStatus}
 use Rattle.protocol_status.specs.declared.report.CommandStatusParseError.{CommandStatusParseError}
 use Rattle.protocol_status.specs.declared.report.CommandStatusParseError.TheVariants.{InvalidSignature, InvalidLength, InvalidStatus}
-use Rattle.protocol_status.specs.declared.report.StatusAnswer.{StatusAnswer}
-use Rattle.protocol_status.specs.declared.report.StatusAnswer.TheVariants.{Block, Refused}
-use Rattle.protocol_status.specs.declared.report.StatusParse.{StatusParse}
+use Rattle.protocol_bytes.specs.declared.signature.Parse.{Parse}
 use Rattle.protocol_status.specs.declared.failure.UsbOperationError.{UsbOperationError}
 use Rattle.protocol_status.specs.declared.failure.UsbOperationError.TheVariants.{TagMismatch, ReplyParseFailure, FailedStatus}
-use Rattle.protocol_reply.specs.Media.{storage_told, read_storage}
-use Rattle.protocol_reply.specs.declared.media.StorageAnswer.{StorageAnswer}
 use Rattle.operation_finish.specs.declared.Kind.{Kind}
-use Rattle.operation_finish.specs.Reply.{Reply, storage, moved, finish_told, blank, beside_of, FinishMeets}
+use Rattle.operation_finish.specs.Reply.{Reply, moved, finish_told, blank, beside_of, FinishMeets}
 use Rattle.operation_finish.specs.Code.{failed_with}
 use Rattle.operation_finish.specs.Transfer.{whole, short}
-use Rattle.operation_finish.specs.Finish.{failed, failed_status, tag_mismatch, sectors_by, sector_reply, storage_reply, reply_of, judged_by, judged, finishes_by, finishes}
+use Rattle.operation_finish.specs.Finish.{failed, failed_status, tag_mismatch, sectors_by, sector_reply, reply_of, judged_by, judged, finishes_by, finishes}
 use Rattle.operation_finish.proofs.Transfers.{transfer_14, transfer_whole, transfer_short}
+use Rattle.std.specs.Prelude.{Result}
+use Rattle.std.specs.declared.result.Result.TheVariants.{Ok, Err}
 
 -- a refusal with no values
 pub refused_14 : FinishMeets (failed_with ReplyParseFailure no_signature) (refused 14 [])
@@ -54,12 +51,12 @@ unread_meets InvalidSignature failure g rest h e = record { tells = told_of _ _ 
 unread_meets (InvalidLength n) failure g rest h e = record { tells = told_of _ _ _ _ (h g); beside = ap blank e }
 unread_meets (InvalidStatus byte) failure g rest h e = record { tells = told_of _ _ _ _ (h g); beside = ap blank e }
 
-pub unread : (p : StatusParse) (told : Told CommandStatus) (error : CommandStatusParseError) (failure : UsbOperationError) → StatusMeets p told
-    → p.answer ≡ Refused error → ((h : List ℕ) → failure_told failure h ≡ at_finish (status_error_told error h)) → (rest : CommandStatus → Told Reply)
+pub unread : (p : Parse CommandStatus CommandStatusParseError) (told : Told CommandStatus) (error : CommandStatusParseError) (failure : UsbOperationError) → StatusMeets p told
+    → p.answer ≡ Err error → ((h : List ℕ) → failure_told failure h ≡ at_finish (status_error_told error h)) → (rest : CommandStatus → Told Reply)
     → FinishMeets (failed_with failure p.signature) (and_then (at_finish told) rest)
 unfolding status_told
 unread p told error failure m a h rest =
-    let read : told ≡ status_error_told error p.signature = sym m.tells ∙ ap (λ (x : StatusAnswer). status_told x p.signature) a in
+    let read : told ≡ status_error_told error p.signature = sym m.tells ∙ ap (λ (x : Result CommandStatus CommandStatusParseError). status_told x p.signature) a in
     rw read (unread_meets error failure p.signature rest h (m.signature ∙ ap (signature_in 6) read))
 
 module _ (length residue : ℕ) where
@@ -75,14 +72,8 @@ module _ (length residue : ℕ) where
   unfolding sectors_by and_then
   sectors_short some h = rw (transfer_short length residue some h)
 
--- a storage reply is what its first 4 bytes are read as
-pub storage_as : (a : StorageAnswer) (word inband : List ℕ) → word ≡ take 4 inband → storage_told a ≡ read_storage word
-    → ◌≡◌ {A = Told Reply} (storage_reply inband) (and_then (storage_told a) (λ index. given (storage index)))
-unfolding storage_reply
-storage_as a word inband h e = rw (e, h) refl
-
 -- a status that was read
-pub block_read : (a : StatusAnswer) (g : List ℕ) (t : Told CommandStatus) (s : CommandStatus) → status_told a g ≡ t → a ≡ Block s → t ≡ given s
+pub block_read : (a : Result CommandStatus CommandStatusParseError) (g : List ℕ) (t : Told CommandStatus) (s : CommandStatus) → status_told a g ≡ t → a ≡ Ok s → t ≡ given s
 unfolding status_told
 block_read a g t s h e = sym h ∙ rw e
 

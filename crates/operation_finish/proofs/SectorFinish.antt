@@ -27,8 +27,6 @@ use Rattle.operation_finish.specs.declared.ShortTransfer.{ShortTransfer}
 use Rattle.operation_finish.specs.declared.SectorTransfer.{SectorTransfer}
 use Rattle.operation_finish.specs.declared.SectorTransfer.TheVariants.{Whole, Short}
 use Rattle.operation_finish.specs.declared.UsbReply.TheVariants as usb
-use Rattle.operation_finish.specs.declared.FinishAnswer.{FinishAnswer}
-use Rattle.operation_finish.specs.declared.FinishAnswer.TheVariants.{Replied, Failed}
 use Rattle.operation_finish.specs.declared.Finished.{Finished}
 use Rattle.operation_finish.specs.Transfer.{bytes, whole, short, transfer_values, transfer_of, moved_of, forgets}
 use Rattle.operation_finish.specs.Reply.{Reply, moved, storage, reply_given, finish_told, FinishMeets}
@@ -37,6 +35,10 @@ use Rattle.operation_finish.specs.Ended.{OverSectors, reading, writing, Ended}
 use Rattle.operation_finish.proofs.Transfers.{whole_only, short_only, refused_only, transfer_forgotten}
 use Rattle.operation_finish.proofs.Cases.{sectors_14, sectors_whole, sectors_short, finish_reply}
 use Rattle.operation_finish.proofs.Unique.{answer_of, answer_of_lem}
+use Rattle.std.specs.Prelude.{Result}
+use Rattle.operation_finish.specs.declared.UsbReply.{UsbReply}
+use Rattle.protocol_status.specs.declared.failure.UsbOperationError.{UsbOperationError}
+use Rattle.std.specs.declared.result.Result.TheVariants.{Ok, Err}
 
 -- a status that can't be read is refused at a finish
 still_refused : {A : Type 0} (n : ℕ) (values : List ℕ) → (m : ℕ) × (ws : List ℕ) × (at_finish {A = A} (refused n values) ≡ refused m ws)
@@ -174,13 +176,13 @@ module _ (k : Kind) (tag l : ℕ) (status inband : List ℕ) where
 
   -- any answer that the promise of `finish_of` allows
   module _ (r : Finished) (meets : FinishMeets r (finishes k tag l status inband)) where
-    answer_behind : (transfer : SectorTransfer) → r.answer ≡ Replied (usb.Sectors transfer) → Behind transfer
+    answer_behind : (transfer : SectorTransfer) → r.answer ≡ Ok (usb.Sectors transfer) → Behind transfer
     unfolding finish_told reply_given
     answer_behind transfer e =
-        finish_sectors transfer (sym meets.tells ∙ ap (λ (a : FinishAnswer). finish_told a r.beside) e)
+        finish_sectors transfer (sym meets.tells ∙ ap (λ (a : Result UsbReply UsbOperationError). finish_told a r.beside) e)
 
     -- SHORT. Only behind a success with its own tag whose residue is 1 byte at least and no more than was asked: what was moved is the rest
-    pub told_short : (s : ShortTransfer) → r.answer ≡ Replied (usb.Sectors (Short s))
+    pub told_short : (s : ShortTransfer) → r.answer ≡ Ok (usb.Sectors (Short s))
         → (report : CommandStatus) × Ended k tag status report × (0 < report.residue) × (report.residue ≤ l)
         × (s.moved ≡ bytes (l - report.residue)) × (s.asked ≡ bytes l)
     told_short s e =
@@ -188,16 +190,16 @@ module _ (k : Kind) (tag l : ℕ) (status inband : List ℕ) where
         let only = short_only l b.0.residue s b.2 in (b.0, b.1, only.0, only.1, only.2, only.3)
 
     -- WHOLE. Only behind a success with its own tag and residue 0: what was asked was moved
-    pub told_whole : (count : Transferred) → r.answer ≡ Replied (usb.Sectors (Whole count))
+    pub told_whole : (count : Transferred) → r.answer ≡ Ok (usb.Sectors (Whole count))
         → (report : CommandStatus) × Ended k tag status report × (report.residue ≡ 0) × (count ≡ bytes l)
     told_whole count e =
         let b = answer_behind (Whole count) e in
         let only = whole_only l b.0.residue count b.2 in (b.0, b.1, only.0, only.1)
 
     -- 14 of an operation over sectors only behind such a success with more left over than was asked
-    pub told_14 : OverSectors k → r.answer ≡ Failed ReplyParseFailure → (report : CommandStatus) × Ended k tag status report × (l < report.residue)
+    pub told_14 : OverSectors k → r.answer ≡ Err ReplyParseFailure → (report : CommandStatus) × Ended k tag status report × (l < report.residue)
     unfolding finish_told failure_number failure_values
-    told_14 over e = finish_14 over (sym meets.tells ∙ ap (λ (a : FinishAnswer). finish_told a r.beside) e)
+    told_14 over e = finish_14 over (sym meets.tells ∙ ap (λ (a : Result UsbReply UsbOperationError). finish_told a r.beside) e)
 
     -- and always behind these
     module _ (report : CommandStatus) (ended : Ended k tag status report) where
@@ -206,25 +208,25 @@ module _ (k : Kind) (tag l : ℕ) (status inband : List ℕ) where
           sym (answer_of_lem r.answer r.beside)
           ∙ ap answer_of (meets.tells ∙ finish_ended report ended ∙ e)
 
-      pub tells_short : 0 < report.residue → report.residue ≤ l → r.answer ≡ Replied (usb.Sectors (short (l - report.residue) l))
+      pub tells_short : 0 < report.residue → report.residue ≤ l → r.answer ≡ Ok (usb.Sectors (short (l - report.residue) l))
       tells_short some few = tells_sectors _ (sectors_short l report.residue some few)
 
-      pub tells_whole : report.residue ≡ 0 → r.answer ≡ Replied (usb.Sectors (whole l))
+      pub tells_whole : report.residue ≡ 0 → r.answer ≡ Ok (usb.Sectors (whole l))
       tells_whole none = tells_sectors _ (sectors_whole l report.residue none)
 
-      pub tells_14 : l < report.residue → r.answer ≡ Failed ReplyParseFailure
+      pub tells_14 : l < report.residue → r.answer ≡ Err ReplyParseFailure
       tells_14 more = tells_sectors _ (sectors_14 l report.residue more)
 
       -- the values of the answer: (moved, asked), or (moved)
-      same_transfer : (x y : SectorTransfer) → r.answer ≡ Replied (usb.Sectors x) → r.answer ≡ Replied (usb.Sectors y) → x ≡ y
-      same_transfer x y e f = let same : Replied (usb.Sectors x) ≡ Replied (usb.Sectors y) = sym e ∙ f in cc
+      same_transfer : (x y : SectorTransfer) → r.answer ≡ Ok (usb.Sectors x) → r.answer ≡ Ok (usb.Sectors y) → x ≡ y
+      same_transfer x y e f = let same : Ok (usb.Sectors x) ≡ Ok (usb.Sectors y) = sym e ∙ f in cc
 
-      pub short_values : 0 < report.residue → report.residue ≤ l → (transfer : SectorTransfer) → r.answer ≡ Replied (usb.Sectors transfer)
+      pub short_values : 0 < report.residue → report.residue ≤ l → (transfer : SectorTransfer) → r.answer ≡ Ok (usb.Sectors transfer)
           → transfer_values transfer ≡ (l - report.residue) ∷ l ∷ []
       unfolding transfer_values
       short_values some few transfer e = ap transfer_values (same_transfer transfer (short (l - report.residue) l) e (tells_short some few))
 
-      pub whole_values : report.residue ≡ 0 → (transfer : SectorTransfer) → r.answer ≡ Replied (usb.Sectors transfer) → transfer_values transfer ≡ l ∷ []
+      pub whole_values : report.residue ≡ 0 → (transfer : SectorTransfer) → r.answer ≡ Ok (usb.Sectors transfer) → transfer_values transfer ≡ l ∷ []
       unfolding transfer_values
       whole_values none transfer e = ap transfer_values (same_transfer transfer (whole l) e (tells_whole none))
 

@@ -21,14 +21,14 @@ use Rattle.operation_finish.specs.declared.SectorTransfer.{SectorTransfer}
 use Rattle.operation_finish.specs.declared.SectorTransfer.TheVariants.{Whole}
 use Rattle.operation_finish.specs.declared.UsbReply.{UsbReply}
 use Rattle.operation_finish.specs.declared.UsbReply.TheVariants as usb
-use Rattle.operation_finish.specs.declared.FinishAnswer.{FinishAnswer}
-use Rattle.operation_finish.specs.declared.FinishAnswer.TheVariants.{Replied, Failed}
 use Rattle.operation_finish.specs.declared.Beside.{Beside}
 use Rattle.operation_finish.specs.declared.Finished.{Finished}
 use Rattle.operation_finish.specs.Reply.{Reply, moved, nothing, reply_given, finish_told, blank, FinishMeets}
 use Rattle.operation_finish.specs.Transfer.{short, transfer_values}
 use Rattle.operation_finish.specs.Finish.{reply_by, finishes}
 use Rattle.operation_finish.proofs.Cases.{sectors_14, sectors_short, finish_15, finish_10, finish_reply}
+use Rattle.std.specs.Prelude.{Result}
+use Rattle.std.specs.declared.result.Result.TheVariants.{Ok, Err}
 
 -- a status with tag 7 that leaves 512 bytes over, and its bytes
 abbrev ended : Status → CommandStatus
@@ -52,19 +52,19 @@ signature_dropped r e f =
 
 module _ (r : Finished) (inband : List ℕ) where
   -- what can be told of a read of 1,536 bytes whose status leaves 512 over
-  moved_1024 : (transfer : SectorTransfer) → FinishMeets r (finishes kind.Read 7 1536 (sent SUCCESS) inband) → r.answer ≡ Replied (usb.Sectors transfer)
+  moved_1024 : (transfer : SectorTransfer) → FinishMeets r (finishes kind.Read 7 1536 (sent SUCCESS) inband) → r.answer ≡ Ok (usb.Sectors transfer)
       → transfer_values transfer ≡ 1024 ∷ 1536 ∷ []
   unfolding finish_told reply_given reply_by transfer_values
   moved_1024 transfer meets e =
       let told : given (moved transfer) ≡ given (moved (short 1024 1536)) =
-      ap (λ (a : FinishAnswer). finish_told a r.beside) (sym e) ∙ meets.tells
+      ap (λ (a : Result UsbReply UsbOperationError). finish_told a r.beside) (sym e) ∙ meets.tells
       ∙ finish_reply kind.Read 7 1536 (sent SUCCESS) inband (ended SUCCESS) (read_sent SUCCESS) refl refl
       ∙ sectors_short 1536 512 (lit< tt) (lit≤ tt) in
       let same : transfer ≡ short 1024 1536 = cc in ap transfer_values same
 
   -- a short transfer told as whole, with any count
   pub short_as_whole : (count : Transferred) → FinishMeets r (finishes kind.Read 7 1536 (sent SUCCESS) inband)
-      → r.answer ≡ Replied (usb.Sectors (Whole count)) → ⊥
+      → r.answer ≡ Ok (usb.Sectors (Whole count)) → ⊥
   unfolding transfer_values
   short_as_whole count meets e =
       let told : count.0 ∷ [] ≡ 1024 ∷ 1536 ∷ [] = moved_1024 (Whole count) meets e in
@@ -72,7 +72,7 @@ module _ (r : Finished) (inband : List ℕ) where
 
   -- asked told as moved, and moved as asked
   pub moved_and_asked_swapped : FinishMeets r (finishes kind.Read 7 1536 (sent SUCCESS) inband)
-      → r.answer ≡ Replied (usb.Sectors (short 1536 1024)) → ⊥
+      → r.answer ≡ Ok (usb.Sectors (short 1536 1024)) → ⊥
   unfolding transfer_values
   moved_and_asked_swapped meets e =
       let told : ◌≡◌ {A = List ℕ} (1536 ∷ 1024 ∷ []) (1024 ∷ 1536 ∷ []) = moved_1024 (short 1536 1024) meets e in
@@ -80,7 +80,7 @@ module _ (r : Finished) (inband : List ℕ) where
 
   -- the residue told as what was moved
   pub residue_as_moved : FinishMeets r (finishes kind.Read 7 1536 (sent SUCCESS) inband)
-      → r.answer ≡ Replied (usb.Sectors (short 512 1536)) → ⊥
+      → r.answer ≡ Ok (usb.Sectors (short 512 1536)) → ⊥
   unfolding transfer_values
   residue_as_moved meets e =
       let told : ◌≡◌ {A = List ℕ} (512 ∷ 1536 ∷ []) (1024 ∷ 1536 ∷ []) = moved_1024 (short 512 1536) meets e in
@@ -88,48 +88,48 @@ module _ (r : Finished) (inband : List ℕ) where
 
   -- a residue above the length told as any transfer, short or whole
   pub refusal_as_short : (transfer : SectorTransfer) → FinishMeets r (finishes kind.Write 7 256 (sent SUCCESS) inband)
-      → r.answer ≡ Replied (usb.Sectors transfer) → ⊥
+      → r.answer ≡ Ok (usb.Sectors transfer) → ⊥
   unfolding finish_told reply_given reply_by
   refusal_as_short transfer meets e =
       let told : given (moved transfer) ≡ refused 14 [] =
-      ap (λ (a : FinishAnswer). finish_told a r.beside) (sym e) ∙ meets.tells
+      ap (λ (a : Result UsbReply UsbOperationError). finish_told a r.beside) (sym e) ∙ meets.tells
       ∙ finish_reply kind.Write 7 256 (sent SUCCESS) inband (ended SUCCESS) (read_sent SUCCESS) refl refl
       ∙ sectors_14 256 512 (lit< tt) in
       let z : ◌≡◌ {A = ℕ} 0 1 = cc in omega arith
 
   -- a wrong tag told of a failed status: the failure comes first
-  pub tag_before_failed : FinishMeets r (finishes kind.Nothing 8 0 (sent FAILED) inband) → r.answer ≡ Failed TagMismatch → ⊥
+  pub tag_before_failed : FinishMeets r (finishes kind.Nothing 8 0 (sent FAILED) inband) → r.answer ≡ Err TagMismatch → ⊥
   unfolding finish_told failure_number failure_values
   tag_before_failed meets e =
       let told : ◌≡◌ {A = Told Reply} (refused 10 []) (refused 15 []) =
-      ap (λ (a : FinishAnswer). finish_told a r.beside) (sym e) ∙ meets.tells
+      ap (λ (a : Result UsbReply UsbOperationError). finish_told a r.beside) (sym e) ∙ meets.tells
       ∙ finish_15 kind.Nothing 8 0 (sent FAILED) inband (ended FAILED) (read_sent FAILED) refl in
       let z : ◌≡◌ {A = ℕ} 10 15 = cc in omega arith
 
   -- a wrong tag let through
-  pub tag_unlooked : FinishMeets r (finishes kind.Nothing 8 0 (sent SUCCESS) inband) → r.answer ≡ Replied usb.Nothing → ⊥
+  pub tag_unlooked : FinishMeets r (finishes kind.Nothing 8 0 (sent SUCCESS) inband) → r.answer ≡ Ok usb.Nothing → ⊥
   unfolding finish_told
   tag_unlooked meets e =
       let told : given (reply_given usb.Nothing r.beside) ≡ refused 10 [] =
-      ap (λ (a : FinishAnswer). finish_told a r.beside) (sym e) ∙ meets.tells
+      ap (λ (a : Result UsbReply UsbOperationError). finish_told a r.beside) (sym e) ∙ meets.tells
       ∙ finish_10 kind.Nothing 8 0 (sent SUCCESS) inband (ended SUCCESS) (read_sent SUCCESS) refl (λ h. omega arith) in
       let z : ◌≡◌ {A = ℕ} 0 1 = cc in omega arith
 
   -- a finish that always fails, whatever it tells
-  pub always_refusing : (error : UsbOperationError) → FinishMeets r (finishes kind.Nothing 7 0 (sent SUCCESS) inband) → r.answer ≡ Failed error → ⊥
+  pub always_refusing : (error : UsbOperationError) → FinishMeets r (finishes kind.Nothing 7 0 (sent SUCCESS) inband) → r.answer ≡ Err error → ⊥
   unfolding finish_told reply_by
   always_refusing error meets e =
       let told : refused (failure_number error) (failure_values error r.beside.signature) ≡ given nothing =
-      ap (λ (a : FinishAnswer). finish_told a r.beside) (sym e) ∙ meets.tells
+      ap (λ (a : Result UsbReply UsbOperationError). finish_told a r.beside) (sym e) ∙ meets.tells
       ∙ finish_reply kind.Nothing 7 0 (sent SUCCESS) inband (ended SUCCESS) (read_sent SUCCESS) refl refl in
       let z : ◌≡◌ {A = ℕ} 0 1 = cc in omega arith
 
 -- one number for all failures
-pub one_number_for_all : (n : ℕ) (b : Beside) → n ≡ number (finish_told (Failed TagMismatch) b) → n ≡ number (finish_told (Failed FailedStatus) b) → ⊥
+pub one_number_for_all : (n : ℕ) (b : Beside) → n ≡ number (finish_told (Err TagMismatch) b) → n ≡ number (finish_told (Err FailedStatus) b) → ⊥
 unfolding number finish_told failure_number
 one_number_for_all n b e f = omega arith
 
 -- a reply told as a refusal
-pub reply_a_refusal : (n : ℕ) (reply : UsbReply) (b : Beside) → n ≡ number (finish_told (Replied reply) b) → 1 ≤ n → ⊥
+pub reply_a_refusal : (n : ℕ) (reply : UsbReply) (b : Beside) → n ≡ number (finish_told (Ok reply) b) → 1 ≤ n → ⊥
 unfolding number finish_told
 reply_a_refusal n reply b e f = omega arith

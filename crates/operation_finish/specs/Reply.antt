@@ -13,10 +13,11 @@ use Rattle.operation_finish.specs.declared.UsbReply.TheVariants as usb
 use Rattle.operation_finish.specs.declared.ShortTransfer.{ShortTransfer}
 use Rattle.operation_finish.specs.declared.SectorTransfer.{SectorTransfer}
 use Rattle.operation_finish.specs.declared.SectorTransfer.TheVariants.{Short}
-use Rattle.operation_finish.specs.declared.FinishAnswer.{FinishAnswer}
-use Rattle.operation_finish.specs.declared.FinishAnswer.TheVariants.{Replied, Failed}
 use Rattle.operation_finish.specs.declared.Beside.{Beside}
 use Rattle.operation_finish.specs.declared.Finished.{Finished}
+use Rattle.std.specs.Prelude.{Result}
+use Rattle.protocol_status.specs.declared.failure.UsbOperationError.{UsbOperationError}
+use Rattle.std.specs.declared.result.Result.TheVariants.{Ok, Err}
 
 -- "Each kind keeps its own wrapper as in the Rust"; S is what is told of sectors
 pub data ReplyWith (S : Type 0) : Type 0 where
@@ -46,9 +47,9 @@ reply_given (usb.Storage index) b = storage index
 reply_given (usb.Sectors transfer) b = moved transfer
 
 -- number and values of every answer
-unfoldable pub finish_told : FinishAnswer → Beside → Told Reply
-finish_told (Replied reply) b = given (reply_given reply b)
-finish_told (Failed error) b = failure_told error b.signature
+unfoldable pub finish_told : Result UsbReply UsbOperationError → Beside → Told Reply
+finish_told (Ok reply) b = given (reply_given reply b)
+finish_told (Err error) b = failure_told error b.signature
 
 abbrev pub no_chip_info : ChipInfo
 no_chip_info = record { 0 = replicate 16 0 }

@@ -3,24 +3,23 @@
 #![tactic(auto)]
 
 ghost use Rattle.std.specs.Prelude.{◌≡◌, ◌≤◌, length, take};
-ghost use Rattle.promise.specs.Told.{number};
 ghost use Rattle.protocol_bytes.specs.Signature.{no_signature};
 ghost use Rattle.operation_finish.specs.declared.Beside.{Beside};
 ghost use Rattle.operation_finish.specs.Reply.{finish_told, no_chip_info, no_flash_id, no_flash_info, no_capability, besides, blank, FinishMeets};
 ghost use Rattle.operation_finish.specs.Code.{failed_with, replied_with};
 ghost use Rattle.operation_finish.specs.Finish.{storage_reply, sector_reply, reply_of, finishes};
 
-use lent_bytes;
 use protocol_codes::{Status, StorageIndex};
 use protocol_reply::flags::Capability;
 use protocol_reply::info::{ChipInfo, FlashId, FlashInfo};
-use protocol_reply::media::{StorageAnswer, storage_index};
+use protocol_reply::media::storage_index;
 use protocol_reply::size::Transferred;
 use protocol_status::failure::UsbOperationError;
-use protocol_status::report::{CommandStatus, StatusAnswer};
+use protocol_status::report::{CommandStatus, CommandStatusParseError};
+use rule_number::RuleNumber;
 
 // What an operation ends with: one for each kind of reply, and the two over sectors.
-#[derive(Clone, Copy)]
+#[derive(Clone, Copy, Debug, PartialEq, Eq)]
 pub enum Kind {
     ChipInfo,
     FlashId,
@@ -33,21 +32,21 @@ pub enum Kind {
 }
 
 // Fewer bytes were moved than the command asked for.
-#[derive(Clone, Copy)]
+#[derive(Clone, Copy, Debug, PartialEq, Eq)]
 pub struct ShortTransfer {
     pub moved: Transferred,
     pub asked: Transferred,
 }
 
 // What became of the data of a sector operation: all of it was moved, or fewer bytes than asked.
-#[derive(Clone, Copy)]
+#[derive(Clone, Copy, Debug, PartialEq, Eq)]
 pub enum SectorTransfer {
     Whole(Transferred),
     Short(ShortTransfer),
 }
 
 // A reply. Where its wrapper holds an array, it stands beside.
-#[derive(Clone, Copy)]
+#[derive(Clone, Copy, Debug, PartialEq, Eq)]
 pub enum UsbReply {
     ChipInfo,
     FlashId,
@@ -56,25 +55,6 @@ pub enum UsbReply {
     Nothing,
     Storage(StorageIndex),
     Sectors(SectorTransfer),
-}
-
-#[derive(Clone, Copy)]
-pub enum FinishAnswer {
-    Replied(UsbReply),
-    Failed(UsbOperationError),
-}
-
-impl FinishAnswer {
-    // Its number in the rules: 0 for a reply, 10 to 15.
-    #[tactic(auto, unfolding(promise::specs::Told::number, crate::specs::Reply::finish_told))]
-    pub fn number(self) -> u8
-        ensures { (b : Beside) → result ≡ number (finish_told self b) }
-    {
-        match self {
-            FinishAnswer::Replied(_) => 0,
-            FinishAnswer::Failed(error) => error.number(),
-        }
-    }
 }
 
 // What no enum can hold. Each is zeros where it is not the answer.
@@ -89,7 +69,7 @@ pub struct Beside {
 
 #[derive(Clone, Copy)]
 pub struct Finished {
-    pub answer: FinishAnswer,
+    pub answer: Result<UsbReply, UsbOperationError>,
     pub beside: Beside,
 }
 
@@ -117,7 +97,7 @@ fn failed(error: UsbOperationError, signature: [u8; 4]) -> Finished
 {
     let beside = Beside::blank(signature);
     Finished {
-        answer: FinishAnswer::Failed(error),
+        answer: Err(error),
         beside,
     }
 }
@@ -125,20 +105,27 @@ fn failed(error: UsbOperationError, signature: [u8; 4]) -> Finished
 fn replied(reply: UsbReply) -> Finished
     ensures { result ≡ replied_with reply (blank no_signature) }
 {
-    let beside = Beside::blank([0, 0, 0, 0]);
-    Finished {
-        answer: FinishAnswer::Replied(reply),
-        beside,
-    }
+    replied_beside(reply, Beside::blank([0, 0, 0, 0]))
 }
 
-// The first bytes of a reply, as many as `out` has.
-fn first_of(inband: [u8; 16], out: &mut [u8]) -> usize
-    requires { length out.old ≤ 16 }
-    ensures { out.new ≡ take (length out.old) inband }
+// The first N bytes of what was received.
+fn first_of<const N: usize>(inband: [u8; 16]) -> [u8; N]
+    requires { N ≤ 16 }
+    ensures { result ≡ take N inband }
 {
-    let n = out.len();
-    lent_bytes::copy(&inband[..n], out)
+    let mut first = [0u8; N];
+    first.copy_from_slice(&inband[..N]);
+    first
+}
+
+// A reply that stands beside.
+fn replied_beside(reply: UsbReply, beside: Beside) -> Finished
+    ensures { result ≡ replied_with reply beside }
+{
+    Finished {
+        answer: Ok(reply),
+        beside,
+    }
 }
 
 fn chip_info_of(inband: [u8; 16]) -> Finished
@@ -147,61 +134,38 @@ fn chip_info_of(inband: [u8; 16]) -> Finished
     let chip_info = ChipInfo(inband);
     let mut beside = Beside::blank([0, 0, 0, 0]);
     beside.chip_info = chip_info;
-    Finished {
-        answer: FinishAnswer::Replied(UsbReply::ChipInfo),
-        beside,
-    }
+    replied_beside(UsbReply::ChipInfo, beside)
 }
 
 fn flash_id_of(inband: [u8; 16]) -> Finished
     ensures { result ≡ replied_with UsbReply.FlashId (besides no_signature no_chip_info (record { 0 = take 5 inband }) no_flash_info no_capability) }
 {
-    let mut id = [0u8; 5];
-    first_of(inband, &mut id);
-    let flash_id = FlashId(id);
     let mut beside = Beside::blank([0, 0, 0, 0]);
-    beside.flash_id = flash_id;
-    Finished {
-        answer: FinishAnswer::Replied(UsbReply::FlashId),
-        beside,
-    }
+    beside.flash_id = FlashId(first_of(inband));
+    replied_beside(UsbReply::FlashId, beside)
 }
 
 fn flash_info_of(inband: [u8; 16]) -> Finished
     ensures { result ≡ replied_with UsbReply.FlashInfo (besides no_signature no_chip_info no_flash_id (record { 0 = take 11 inband }) no_capability) }
 {
-    let mut info = [0u8; 11];
-    first_of(inband, &mut info);
-    let flash_info = FlashInfo(info);
     let mut beside = Beside::blank([0, 0, 0, 0]);
-    beside.flash_info = flash_info;
-    Finished {
-        answer: FinishAnswer::Replied(UsbReply::FlashInfo),
-        beside,
-    }
+    beside.flash_info = FlashInfo(first_of(inband));
+    replied_beside(UsbReply::FlashInfo, beside)
 }
 
 fn capability_of(inband: [u8; 16]) -> Finished
     ensures { result ≡ replied_with UsbReply.Capability (besides no_signature no_chip_info no_flash_id no_flash_info (record { 0 = take 8 inband })) }
 {
-    let mut flags = [0u8; 8];
-    first_of(inband, &mut flags);
-    let capability = Capability(flags);
     let mut beside = Beside::blank([0, 0, 0, 0]);
-    beside.capability = capability;
-    Finished {
-        answer: FinishAnswer::Replied(UsbReply::Capability),
-        beside,
-    }
+    beside.capability = Capability(first_of(inband));
+    replied_beside(UsbReply::Capability, beside)
 }
 
 #[tactic(auto, unfolding(promise::specs::Told::and_then, crate::specs::Finish::storage_reply, protocol_reply::specs::Media::storage_told, crate::specs::Reply::finish_told, crate::specs::Reply::reply_given, crate::specs::Reply::beside_of, crate::specs::Reply::beside_reply, protocol_status::specs::Failure::failure_number, protocol_status::specs::Failure::failure_values, protocol_bytes::specs::Signature::signature_in))]
 fn storage_of(inband: [u8; 16]) -> Finished
     ensures { FinishMeets result (storage_reply inband) }
 {
-    let mut word = [0u8; 4];
-    first_of(inband, &mut word);
-    let StorageAnswer::Index(index) = storage_index(word) else {
+    let Ok(index) = storage_index(first_of(inband)) else {
         return failed(UsbOperationError::ReplyParseFailure, [0, 0, 0, 0]);
     };
     replied(UsbReply::Storage(index))
@@ -235,8 +199,7 @@ fn reply_of(kind: Kind, length: u32, residue: u32, inband: [u8; 16]) -> Finished
         Kind::Capability => capability_of(inband),
         Kind::Nothing => replied(UsbReply::Nothing),
         Kind::Storage => storage_of(inband),
-        Kind::Read => sectors_of(length, residue),
-        Kind::Write => sectors_of(length, residue),
+        Kind::Read | Kind::Write => sectors_of(length, residue),
     }
 }
 
@@ -245,16 +208,11 @@ pub fn finish_of(kind: Kind, tag: u32, length: u32, status: [u8; 13], inband: [u
     ensures { FinishMeets result (finishes kind tag length status inband) }
 {
     let parse = CommandStatus::from_bytes(&status);
-    let answer = parse.answer;
-    let signature = parse.signature;
-    let report = match answer {
-        StatusAnswer::Block(report) => report,
-        StatusAnswer::Refused(error) => {
-            return failed(UsbOperationError::from_status(error), signature);
-        }
+    let report = match parse.answer {
+        Ok(report) => report,
+        Err(error) => return failed(UsbOperationError::from(error), parse.signature),
     };
-    let outcome = report.status;
-    let Status::SUCCESS = outcome else {
+    let Status::SUCCESS = report.status else {
         return failed(UsbOperationError::FailedStatus, [0, 0, 0, 0]);
     };
     if report.tag != tag {

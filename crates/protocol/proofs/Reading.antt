@@ -14,12 +14,13 @@ use Rattle.protocol_codes.specs.declared.CommandCode.{CommandCode}
 use Rattle.protocol_codes.proofs.Reading.{known_refused}
 use Rattle.protocol_bytes.specs.Signature.{usbc, same, signature_in}
 use Rattle.protocol.specs.declared.CommandBlock.{CommandBlock}
-use Rattle.protocol.specs.declared.CommandParse.{CommandParse}
-use Rattle.protocol.specs.declared.CommandAnswer.TheVariants.{Block, Refused}
+use Rattle.protocol_bytes.specs.declared.signature.Parse.{Parse}
+use Rattle.protocol.specs.declared.CommandBlockParseError.{CommandBlockParseError}
 use Rattle.protocol.specs.declared.CommandBlockParseError.TheVariants.{InvalidSignature, UnknownCommandCode, UnknownFlags, InvalidLength}
 use Rattle.protocol.specs.CommandBytes.{block_of, read_command}
 use Rattle.protocol.specs.CommandMeets.{command_error_number, command_error_values, command_told, CommandMeets}
-use Rattle.protocol.specs.Code.{parsed}
+use Rattle.protocol_bytes.specs.Signature.{parsed}
+use Rattle.std.specs.declared.result.Result.TheVariants.{Ok, Err}
 
 -- the block, once its length and signature are right
 unfoldable pub read_fields : List ℕ → Told CommandBlock
@@ -40,30 +41,30 @@ module _ (bytes : List ℕ) where
   unfolding read_command or_refuse read_fields
   read_signed enough own = rw (le-ltb (length bytes) 31 enough, own) refl
 
-  module _ (r : CommandParse) where
-    pub meets_short : length bytes < 31 → r ≡ parsed (Refused (InvalidLength (length bytes))) → CommandMeets r (read_command bytes)
+  module _ (r : Parse CommandBlock CommandBlockParseError) where
+    pub meets_short : length bytes < 31 → r ≡ parsed (Err (InvalidLength (length bytes))) → CommandMeets r (read_command bytes)
     unfolding command_told command_error_number command_error_values signature_in
     meets_short few e = rw (read_short few, e) (record { tells = refl; signature = refl })
 
-    pub meets_unsigned : 31 ≤ length bytes → same (take 4 bytes) usbc ≡ false → r.answer ≡ Refused InvalidSignature → r.signature ≡ take 4 bytes
+    pub meets_unsigned : 31 ≤ length bytes → same (take 4 bytes) usbc ≡ false → r.answer ≡ Err InvalidSignature → r.signature ≡ take 4 bytes
         → CommandMeets r (read_command bytes)
     unfolding command_told command_error_number command_error_values signature_in
     meets_unsigned enough other a s = rw (read_unsigned enough other) (record { tells = rw (a, s) refl; signature = s })
 
     module _ (enough : 31 ≤ length bytes) (own : same (take 4 bytes) usbc ≡ true) where
       pub meets_flags : (m : ℕ) (vs : List ℕ) → direction_of (get_or bytes 12 0) ≡ refused m vs
-          → r ≡ parsed (Refused (UnknownFlags (get_or bytes 12 0))) → CommandMeets r (read_command bytes)
+          → r ≡ parsed (Err (UnknownFlags (get_or bytes 12 0))) → CommandMeets r (read_command bytes)
       unfolding command_told command_error_number command_error_values signature_in read_fields and_then direction_of
       meets_flags m vs unknown e =
           rw (read_signed enough own, known_refused 3 direction_number directions (get_or bytes 12 0) m vs unknown, e) (record { tells = refl; signature = refl })
 
       pub meets_code : (direction : Direction) (m : ℕ) (vs : List ℕ) → direction_of (get_or bytes 12 0) ≡ given direction
-          → code_of (get_or bytes 15 0) ≡ refused m vs → r ≡ parsed (Refused (UnknownCommandCode (get_or bytes 15 0))) → CommandMeets r (read_command bytes)
+          → code_of (get_or bytes 15 0) ≡ refused m vs → r ≡ parsed (Err (UnknownCommandCode (get_or bytes 15 0))) → CommandMeets r (read_command bytes)
       unfolding command_told command_error_number command_error_values signature_in read_fields and_then code_of
       meets_code direction m vs flags unknown e =
           rw (read_signed enough own, flags, known_refused 4 code_number command_codes (get_or bytes 15 0) m vs unknown, e) (record { tells = refl; signature = refl })
 
       pub meets_block : (direction : Direction) (code : CommandCode) → direction_of (get_or bytes 12 0) ≡ given direction
-          → code_of (get_or bytes 15 0) ≡ given code → r ≡ parsed (Block (block_of bytes direction code)) → CommandMeets r (read_command bytes)
+          → code_of (get_or bytes 15 0) ≡ given code → r ≡ parsed (Ok (block_of bytes direction code)) → CommandMeets r (read_command bytes)
       unfolding command_told signature_in read_fields and_then
       meets_block direction code flags coded e = rw (read_signed enough own, flags, coded, e) (record { tells = refl; signature = refl })

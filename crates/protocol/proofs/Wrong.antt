@@ -16,18 +16,19 @@ use Rattle.protocol_codes.specs.declared.CommandCode.TheVariants.{TestBadBlock, 
 use Rattle.protocol_codes.specs.declared.ResetOpcode.{ResetOpcode}
 use Rattle.protocol_codes.specs.declared.StorageIndex.{StorageIndex}
 use Rattle.protocol_bytes.specs.Signature.{no_signature}
-use Rattle.protocol_bytes.specs.declared.output.Written.{Written}
-use Rattle.protocol_bytes.specs.declared.output.Written.TheVariants.{Bytes, TooShort}
 use Rattle.protocol_bytes.specs.Writing.{writing, written_told, WriteMeets}
 use Rattle.protocol.specs.declared.CommandBlock.{CommandBlock}
-use Rattle.protocol.specs.declared.CommandParse.{CommandParse}
+use Rattle.protocol_bytes.specs.declared.signature.Parse.{Parse}
+use Rattle.protocol.specs.declared.CommandBlockParseError.{CommandBlockParseError}
 use Rattle.protocol.specs.declared.CommandBlockParseError.TheVariants.{InvalidSignature, InvalidLength, UnknownFlags, UnknownCommandCode}
-use Rattle.protocol.specs.declared.CommandAnswer.TheVariants.{Block, Refused}
 use Rattle.protocol.specs.Commands.{flash_id_command, flash_info_command, capability_command, chip_info_command, storage_command, erase_lba_command, erase_force_command, read_lba_command, write_lba_command, reset_command, switch_command}
 use Rattle.protocol.specs.CommandBytes.{command_bytes, read_command, write_command}
 use Rattle.protocol.specs.CommandMeets.{command_error_number, command_told, CommandMeets}
 use Rattle.protocol.proofs.Reading.{read_short}
 use Rattle.protocol.proofs.Trips.{reads_back}
+use Rattle.std.specs.Prelude.{Result}
+use Rattle.rule_number.specs.declared.OutputTooShort.{OutputTooShort}
+use Rattle.std.specs.declared.result.Result.TheVariants.{Ok, Err}
 
 -- two commands that differ in their tag alone, and one of them as bytes
 abbrev one : CommandBlock
@@ -46,22 +47,22 @@ read_sent : read_command sent ≡ given one
 read_sent = reads_back one (replicate 7 0) (record { tag = lit< tt; transfer = lit< tt; address = lit< tt; count = lit< tt }) (lit≤ tt)
 
 -- a reader that refuses everything, whatever it tells
-pub always_refusing : (r : CommandParse) (n : ℕ) (values : List ℕ) → command_told r.answer r.signature ≡ refused n values
+pub always_refusing : (r : Parse CommandBlock CommandBlockParseError) (n : ℕ) (values : List ℕ) → command_told r.answer r.signature ≡ refused n values
     → CommandMeets r (read_command sent) → ⊥
 always_refusing r n values told meets = let z : ◌≡◌ {A = ℕ} 0 1 = cc (meets.tells, read_sent) in omega arith
 
 -- a reader with one answer for all
-pub fixed_answer : (r : CommandParse) → CommandMeets r (read_command []) → CommandMeets r (read_command sent) → ⊥
+pub fixed_answer : (r : Parse CommandBlock CommandBlockParseError) → CommandMeets r (read_command []) → CommandMeets r (read_command sent) → ⊥
 fixed_answer r none some = always_refusing r 1 (0 ∷ []) (none.tells ∙ read_short [] (lit< tt)) some
 
 -- a writer that writes one block for all
-pub fixed_block : (r : Written) (after : List ℕ) → WriteMeets r zeros after (write_command one 31) → WriteMeets r zeros after (write_command other 31) → ⊥
+pub fixed_block : (r : Result ℕ OutputTooShort) (after : List ℕ) → WriteMeets r zeros after (write_command one 31) → WriteMeets r zeros after (write_command other 31) → ⊥
 unfolding write_command writing command_bytes low_first high_first
 fixed_block r after first second =
     let differ : ◌≡◌ {A = ℕ} 1 2 = ap (λ (l : List ℕ). get_or l 7 0) (sym first.leaves ∙ second.leaves) in omega arith
 
 -- a writer that writes nothing
-pub doing_nothing : (r : Written) → WriteMeets r zeros zeros (write_command one 31) → ⊥
+pub doing_nothing : (r : Result ℕ OutputTooShort) → WriteMeets r zeros zeros (write_command one 31) → ⊥
 unfolding write_command writing command_bytes low_first high_first
 doing_nothing r meets = let differ : ◌≡◌ {A = ℕ} 0 0x55 = ap (λ (l : List ℕ). get_or l 0 0) meets.leaves in omega arith
 
@@ -176,7 +177,7 @@ accessor_of_another_field = (
 )
 
 -- a reader for which fewer than 31 bytes are enough
-pub fewer_bytes_read : (bytes : List ℕ) (r : CommandParse) (b : CommandBlock) → length bytes < 31 → command_told r.answer r.signature ≡ given b
+pub fewer_bytes_read : (bytes : List ℕ) (r : Parse CommandBlock CommandBlockParseError) (b : CommandBlock) → length bytes < 31 → command_told r.answer r.signature ≡ given b
     → CommandMeets r (read_command bytes) → ⊥
 fewer_bytes_read bytes r b few told meets = let z : ◌≡◌ {A = ℕ} 0 1 = cc (meets.tells, read_short bytes few) in omega arith
 
@@ -186,36 +187,36 @@ lun_in (given b) = b.lun
 lun_in (refused n values) = 0
 
 -- a reader that takes the lun from the byte beside, where the CDB length stands
-pub lun_read_beside : (r : CommandParse) (b : CommandBlock) → b.lun ≡ one.cdb_length → command_told r.answer r.signature ≡ given b
+pub lun_read_beside : (r : Parse CommandBlock CommandBlockParseError) (b : CommandBlock) → b.lun ≡ one.cdb_length → command_told r.answer r.signature ≡ given b
     → CommandMeets r (read_command sent) → ⊥
 lun_read_beside r b beside told meets =
     let differ : b.lun ≡ one.lun = ap lun_in (sym told ∙ meets.tells ∙ read_sent) in omega arith
 
 -- a writer for which 24 bytes are enough
-pub twenty_four_bytes_written : (b : CommandBlock) (n : ℕ) (before after : List ℕ) → WriteMeets (Bytes n) before after (write_command b 24) → ⊥
+pub twenty_four_bytes_written : (b : CommandBlock) (n : ℕ) (before after : List ℕ) → WriteMeets (Ok n) before after (write_command b 24) → ⊥
 unfolding write_command writing or_refuse written_told
 twenty_four_bytes_written b n before after meets = let z : ◌≡◌ {A = ℕ} 0 1 = cc meets.tells in omega arith
 
 -- a writer that refuses every buffer
-pub every_buffer_refused : (b : CommandBlock) (before after : List ℕ) → WriteMeets TooShort before after (write_command b 31) → ⊥
+pub every_buffer_refused : (b : CommandBlock) (before after : List ℕ) → WriteMeets (Err (record {})) before after (write_command b 31) → ⊥
 unfolding write_command writing or_refuse written_told
 every_buffer_refused b before after meets = let z : ◌≡◌ {A = ℕ} 0 1 = cc meets.tells in omega arith
 
 -- a writer that puts the tag in the other order
-pub tag_in_the_other_order : (r : Written) (after : List ℕ) → take 4 (drop 4 after) ≡ low_first 4 one.tag → WriteMeets r zeros after (write_command one 31) → ⊥
+pub tag_in_the_other_order : (r : Result ℕ OutputTooShort) (after : List ℕ) → take 4 (drop 4 after) ≡ low_first 4 one.tag → WriteMeets r zeros after (write_command one 31) → ⊥
 unfolding write_command writing command_bytes low_first high_first
 tag_in_the_other_order r after wrong meets =
     let differ : ◌≡◌ {A = ℕ} 0 1 = ap (λ (l : List ℕ). get_or (take 4 (drop 4 l)) 0 0) (sym meets.leaves) ∙ ap (λ (l : List ℕ). get_or l 0 0) wrong in omega arith
 
 -- a writer that puts the transfer length, 512, in the other order
-pub transfer_length_in_the_other_order : (r : Written) (after : List ℕ) → take 4 (drop 8 after) ≡ high_first 4 one.transfer_length
+pub transfer_length_in_the_other_order : (r : Result ℕ OutputTooShort) (after : List ℕ) → take 4 (drop 8 after) ≡ high_first 4 one.transfer_length
     → WriteMeets r zeros after (write_command one 31) → ⊥
 unfolding write_command writing command_bytes low_first high_first
 transfer_length_in_the_other_order r after wrong meets =
     let differ : ◌≡◌ {A = ℕ} 2 0 = ap (λ (l : List ℕ). get_or (take 4 (drop 8 l)) 1 0) (sym meets.leaves) ∙ ap (λ (l : List ℕ). get_or l 1 0) wrong in omega arith
 
 -- a writer that puts zeros into bytes 24 to 30, where there were ones
-pub tail_written : (r : Written) → WriteMeets r (replicate 31 1) (command_bytes one ++ replicate 7 0) (write_command one 31) → ⊥
+pub tail_written : (r : Result ℕ OutputTooShort) → WriteMeets r (replicate 31 1) (command_bytes one ++ replicate 7 0) (write_command one 31) → ⊥
 unfolding write_command writing command_bytes low_first high_first
 tail_written r meets = let differ : ◌≡◌ {A = ℕ} 0 1 = ap (λ (l : List ℕ). get_or l 24 0) meets.leaves in omega arith
 
@@ -230,11 +231,11 @@ unfolding command_error_number
 byte_for_number e = omega arith
 
 -- `CommandAnswer::number` that tells 0 for a refusal
-pub refusal_told_as_0 : 0 ≡ number (command_told (Refused (InvalidLength 30)) no_signature) → ⊥
+pub refusal_told_as_0 : 0 ≡ number (command_told (Err (InvalidLength 30)) no_signature) → ⊥
 unfolding number command_told command_error_number
 refusal_told_as_0 e = omega arith
 
 -- `CommandAnswer::number` that tells the code where a command was read
-pub code_for_number : code_number one.cd_code ≡ number (command_told (Block one) no_signature) → ⊥
+pub code_for_number : code_number one.cd_code ≡ number (command_told (Ok one) no_signature) → ⊥
 unfolding number command_told
 code_for_number e = omega arith

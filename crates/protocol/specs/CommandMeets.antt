@@ -4,10 +4,10 @@ use Rattle.promise.specs.Told.{Told, given, refused}
 use Rattle.protocol.specs.declared.CommandBlock.{CommandBlock}
 use Rattle.protocol.specs.declared.CommandBlockParseError.{CommandBlockParseError}
 use Rattle.protocol.specs.declared.CommandBlockParseError.TheVariants.{InvalidSignature, UnknownCommandCode, UnknownFlags, InvalidLength}
-use Rattle.protocol.specs.declared.CommandAnswer.{CommandAnswer}
-use Rattle.protocol.specs.declared.CommandAnswer.TheVariants.{Block, Refused}
-use Rattle.protocol.specs.declared.CommandParse.{CommandParse}
+use Rattle.protocol_bytes.specs.declared.signature.Parse.{Parse}
 use Rattle.protocol_bytes.specs.Signature.{signature_in}
+use Rattle.std.specs.Prelude.{Result}
+use Rattle.std.specs.declared.result.Result.TheVariants.{Ok, Err}
 
 unfoldable pub command_error_number : CommandBlockParseError → ℕ
 command_error_number (InvalidLength n) = 1
@@ -22,11 +22,11 @@ command_error_values InvalidSignature signature = signature
 command_error_values (UnknownFlags byte) signature = byte ∷ []
 command_error_values (UnknownCommandCode byte) signature = byte ∷ []
 
-unfoldable pub command_told : CommandAnswer → List ℕ → Told CommandBlock
-command_told (Block b) signature = given b
-command_told (Refused error) signature = refused (command_error_number error) (command_error_values error signature)
+unfoldable pub command_told : Result CommandBlock CommandBlockParseError → List ℕ → Told CommandBlock
+command_told (Ok b) signature = given b
+command_told (Err error) signature = refused (command_error_number error) (command_error_values error signature)
 
 -- a reader that answers r where `told` is right
-pub record CommandMeets (r : CommandParse) (told : Told CommandBlock) : Type 0 where
+pub record CommandMeets (r : Parse CommandBlock CommandBlockParseError) (told : Told CommandBlock) : Type 0 where
   pub tells : command_told r.answer r.signature ≡ told
   pub signature : r.signature ≡ signature_in 2 told

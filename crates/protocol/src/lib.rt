@@ -6,19 +6,19 @@ ghost use Rattle.std.specs.Prelude.{◌≡◌, List, ℕ, ◌≤◌, length};
 ghost use Rattle.protocol.specs.Commands.{reply_command, opcode_command, sector_command, flash_id_command, flash_info_command, capability_command, chip_info_command, storage_command, erase_lba_command, erase_force_command, read_lba_command, write_lba_command, reset_command, switch_command};
 ghost use Rattle.protocol.specs.CommandBytes.{BlockFits, command_bytes, block_of, read_command, write_command};
 ghost use Rattle.protocol.specs.CommandMeets.{CommandMeets, command_error_number, command_told};
-ghost use Rattle.protocol.specs.Code.{parsed};
 ghost use Rattle.promise.specs.Told.{number};
 ghost use Rattle.protocol_bytes.specs.Writing.{WriteMeets};
 
-use lent_bytes;
 use protocol_bytes::SECTOR_SIZE;
 use protocol_bytes::order::{
     u16_from_be_bytes, u16_to_be_bytes, u32_from_be_bytes, u32_from_le_bytes, u32_to_be_bytes,
     u32_to_le_bytes,
 };
-use protocol_bytes::output::Written;
-use protocol_bytes::signature::starts_with;
-use protocol_codes::{CodeRead, CommandCode, Direction, DirectionRead, ResetOpcode, StorageIndex};
+use protocol_bytes::signature::{Parse, parsed, starts_with};
+use protocol_codes::{
+    CommandCode, Direction, ResetOpcode, StorageIndex, UnknownCode, UnknownDirection,
+};
+use rule_number::{OutputTooShort, RuleNumber};
 
 // Total size of a command block.
 pub const COMMAND_BLOCK_BYTES: usize = 31;
@@ -31,7 +31,7 @@ const SHORT_CDB: u8 = 0x6;
 
 const LONG_CDB: u8 = 0xa;
 
-#[derive(Clone, Copy)]
+#[derive(Clone, Copy, Debug, PartialEq, Eq)]
 pub struct CommandBlock {
     pub tag: u32,
     pub transfer_length: u32,
@@ -45,7 +45,7 @@ pub struct CommandBlock {
 }
 
 // Why bytes are no command block. The signature's bytes stand beside it.
-#[derive(Clone, Copy)]
+#[derive(Clone, Copy, Debug, PartialEq, Eq)]
 pub enum CommandBlockParseError {
     InvalidSignature,
     UnknownCommandCode(u8),
@@ -53,12 +53,11 @@ pub enum CommandBlockParseError {
     InvalidLength(usize),
 }
 
-impl CommandBlockParseError {
-    // Its number in the rules.
+impl RuleNumber for CommandBlockParseError {
+    ghost rule_number = { command_error_number };
+
     #[tactic(auto, unfolding(crate::specs::CommandMeets::command_error_number))]
-    pub fn number(self) -> u8
-        ensures { result ≡ command_error_number self }
-    {
+    fn number(self) -> u8 {
         match self {
             CommandBlockParseError::InvalidLength(_) => 1,
             CommandBlockParseError::InvalidSignature => 2,
@@ -68,38 +67,12 @@ impl CommandBlockParseError {
     }
 }
 
-#[derive(Clone, Copy)]
-pub enum CommandAnswer {
-    Block(CommandBlock),
-    Refused(CommandBlockParseError),
-}
-
-impl CommandAnswer {
-    // Its number in the rules, 0 where a command was read.
-    #[tactic(auto, unfolding(promise::specs::Told::number, crate::specs::CommandMeets::command_told, crate::specs::CommandMeets::command_error_number))]
-    pub fn number(self) -> u8
-        ensures { (signature : List ℕ) → result ≡ number (command_told self signature) }
-    {
-        match self {
-            CommandAnswer::Block(_) => 0,
-            CommandAnswer::Refused(error) => error.number(),
-        }
-    }
-}
-
-#[derive(Clone, Copy)]
-pub struct CommandParse {
-    pub answer: CommandAnswer,
-    // the four bytes of an invalid signature, zeros otherwise
-    pub signature: [u8; 4],
-}
-
 // A request for `length` bytes of reply.
 fn reply_command(tag: u32, length: u32, code: CommandCode) -> CommandBlock
     ensures { result ≡ reply_command tag length code }
 {
     CommandBlock {
-        tag: tag,
+        tag,
         transfer_length: length,
         flags: Direction::In,
         lun: 0,
@@ -116,7 +89,7 @@ fn opcode_command(tag: u32, code: CommandCode, opcode: u8) -> CommandBlock
     ensures { result ≡ opcode_command tag code opcode }
 {
     CommandBlock {
-        tag: tag,
+        tag,
         transfer_length: 0,
         flags: Direction::Out,
         lun: 0,
@@ -140,25 +113,15 @@ fn sector_command(
     ensures { result ≡ sector_command tag length flags code first count }
 {
     CommandBlock {
-        tag: tag,
+        tag,
         transfer_length: length,
-        flags: flags,
+        flags,
         lun: 0,
         cdb_length: LONG_CDB,
         cd_code: code,
         cd_opcode: 0,
         cd_address: first,
         cd_length: count,
-    }
-}
-
-// An answer that has no signature to tell.
-fn parsed(answer: CommandAnswer) -> CommandParse
-    ensures { result ≡ parsed answer }
-{
-    CommandParse {
-        answer: answer,
-        signature: [0, 0, 0, 0],
     }
 }
 
@@ -171,7 +134,7 @@ fn block_of(bytes: &[u8], flags: Direction, code: CommandCode) -> CommandBlock
     CommandBlock {
         tag: u32_from_be_bytes([bytes[4], bytes[5], bytes[6], bytes[7]]),
         transfer_length: u32_from_le_bytes([bytes[8], bytes[9], bytes[10], bytes[11]]),
-        flags: flags,
+        flags,
         lun: bytes[13],
         cdb_length: bytes[14],
         cd_code: code,
@@ -262,13 +225,13 @@ impl CommandBlock {
     pub fn reset_device(tag: u32, opcode: ResetOpcode) -> CommandBlock
         ensures { result ≡ reset_command tag opcode }
     {
-        opcode_command(tag, CommandCode::DeviceReset, opcode.number())
+        opcode_command(tag, CommandCode::DeviceReset, u8::from(opcode))
     }
 
     pub fn switch_storage(tag: u32, index: StorageIndex) -> CommandBlock
         ensures { result ≡ switch_command tag index }
     {
-        opcode_command(tag, CommandCode::SwitchStorage, index.number())
+        opcode_command(tag, CommandCode::SwitchStorage, u8::from(index))
     }
 
     pub fn tag(self) -> u32
@@ -336,10 +299,10 @@ impl CommandBlock {
             length[1],
             length[2],
             length[3],
-            flags.number(),
+            u8::from(flags),
             self.lun,
             self.cdb_length,
-            code.number(),
+            u8::from(code),
             self.cd_opcode,
             address[0],
             address[1],
@@ -353,40 +316,36 @@ impl CommandBlock {
 
     // Fills the first 24 bytes and answers 31: the rest is the caller's.
     #[tactic(auto, unfolding(crate::specs::CommandBytes::write_command, protocol_bytes::specs::Writing::writing, protocol_bytes::specs::Writing::written_told, promise::specs::Rules::or_refuse))]
-    pub fn to_bytes(self, out: &mut [u8]) -> Written
+    pub fn to_bytes(self, out: &mut [u8]) -> Result<usize, OutputTooShort>
         ensures write_meets { WriteMeets result out.old out.new (write_command self (length out.old)) }
         ensures block_fits { BlockFits self }
     {
         if out.len() < COMMAND_BLOCK_BYTES {
-            return Written::TooShort;
+            return Err(OutputTooShort);
         }
         let block = self.bytes();
-        lent_bytes::copy(&block, out);
-        Written::Bytes(COMMAND_BLOCK_BYTES)
+        out[..24].copy_from_slice(&block);
+        Ok(COMMAND_BLOCK_BYTES)
     }
 
-    pub fn from_bytes(bytes: &[u8]) -> CommandParse
+    pub fn from_bytes(bytes: &[u8]) -> Parse<CommandBlock, CommandBlockParseError>
         ensures { CommandMeets result (read_command bytes.now) }
     {
         if bytes.len() < COMMAND_BLOCK_BYTES {
-            return parsed(CommandAnswer::Refused(CommandBlockParseError::InvalidLength(
-                bytes.len(),
-            )));
+            return parsed(Err(CommandBlockParseError::InvalidLength(bytes.len())));
         }
         if !starts_with(bytes, SIGNATURE) {
-            return CommandParse {
-                answer: CommandAnswer::Refused(CommandBlockParseError::InvalidSignature),
+            return Parse {
+                answer: Err(CommandBlockParseError::InvalidSignature),
                 signature: [bytes[0], bytes[1], bytes[2], bytes[3]],
             };
         }
-        let DirectionRead::Known(flags) = Direction::from_number(bytes[12]) else {
-            return parsed(CommandAnswer::Refused(CommandBlockParseError::UnknownFlags(bytes[12])));
+        let Ok(flags) = Direction::try_from(bytes[12]) else {
+            return parsed(Err(CommandBlockParseError::UnknownFlags(bytes[12])));
         };
-        let CodeRead::Known(code) = CommandCode::from_number(bytes[15]) else {
-            return parsed(CommandAnswer::Refused(CommandBlockParseError::UnknownCommandCode(
-                bytes[15],
-            )));
+        let Ok(code) = CommandCode::try_from(bytes[15]) else {
+            return parsed(Err(CommandBlockParseError::UnknownCommandCode(bytes[15])));
         };
-        parsed(CommandAnswer::Block(block_of(bytes, flags, code)))
+        parsed(Ok(block_of(bytes, flags, code)))
     }
 }

@@ -7,9 +7,11 @@ use native.Mathlib.Omega.{arith}
 use lib.ListN.{get_or, length, take}
 use Rattle.promise.specs.Told.{number}
 use Rattle.promise.specs.Bytes.{low_first, high_first, from_low, from_high}
-use Rattle.protocol_bytes.specs.declared.output.Written.TheVariants.{Bytes, TooShort}
-use Rattle.protocol_bytes.specs.Signature.{usbc, usbs, same}
+use Rattle.protocol_bytes.specs.Signature.{usbc, usbs, same, parsed}
+use Rattle.protocol_bytes.specs.declared.signature.Parse.{Parse}
+use Rattle.std.specs.Prelude.{Result}
 use Rattle.protocol_bytes.specs.Writing.{written_told}
+use Rattle.std.specs.declared.result.Result.TheVariants.{Ok, Err}
 
 -- bytes 1, 2, 3, 4 and bytes 1, 2
 abbrev four : List ℕ
@@ -79,11 +81,16 @@ unfolding same
 short_bytes_pass e = true_is_not_false e
 
 -- one number for what was written and for what was too short
-pub one_number : (r n : ℕ) → r ≡ number (written_told (Bytes n)) → r ≡ number (written_told TooShort) → ⊥
+pub one_number : (r n : ℕ) → r ≡ number (written_told (Ok n)) → r ≡ number (written_told (Err (record {}))) → ⊥
 unfolding number written_told
 one_number r n e f = omega arith
 
 -- the count of bytes told for the number
-pub count_for_number : 31 ≡ number (written_told (Bytes 31)) → ⊥
+pub count_for_number : 31 ≡ number (written_told (Ok 31)) → ⊥
 unfolding number written_told
 count_for_number e = omega arith
+
+-- an answer with one fixed signature beside it that isn't zeros
+pub signature_for_none : {A E : Type 0} (r : Parse A E) (answer : Result A E) → r ≡ parsed answer → get_or r.signature 0 0 ≡ 0x55 → ⊥
+signature_for_none {A} {E} r answer e f =
+    let z : ◌≡◌ {A = ℕ} 0 0x55 = sym (ap (λ (p : Parse A E). get_or p.signature 0 0) e) ∙ f in omega arith

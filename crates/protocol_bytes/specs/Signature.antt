@@ -1,7 +1,8 @@
 -- The signatures of the two blocks, and what stands beside an answer that may refuse one.
-use Rattle.std.specs.Prelude.{ℕ, Bool, true, false, List, [], ◌∷◌, eqb}
+use Rattle.std.specs.Prelude.{ℕ, Bool, true, false, List, [], ◌∷◌, eqb, Result}
 use Rattle.promise.specs.Told.{Told, given, refused}
 use Rattle.promise.specs.Rules.{pick}
+use Rattle.protocol_bytes.specs.declared.signature.Parse.{Parse}
 
 -- `USBC`
 abbrev pub usbc : List ℕ
@@ -26,3 +27,7 @@ no_signature = 0 ∷ 0 ∷ 0 ∷ 0 ∷ []
 unfoldable pub signature_in : {A : Type 0} → ℕ → Told A → List ℕ
 signature_in refusal (given value) = no_signature
 signature_in refusal (refused number values) = pick (eqb number refusal) values no_signature
+
+-- an answer that has no signature to tell
+abbrev pub parsed : {T E : Type 0} → Result T E → Parse T E
+parsed answer = record { answer = answer; signature = no_signature }

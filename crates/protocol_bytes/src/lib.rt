@@ -1,9 +1,8 @@
-// What the blocks of the protocol share: byte order, a signature compared, and what a writer answers.
+// What the blocks of the protocol share: byte order, and a signature compared.
 
 #![tactic(auto)]
 
 pub mod order;
-pub mod output;
 pub mod signature;
 
 // Bytes in a sector.

@@ -3,27 +3,26 @@ use Prim.Native.Nat.{ℕ}
 use mathlib.Core.Path.{◌≡◌, refl, ap, sym, ◌∙◌}
 use mathlib.Core.List.{[], ◌∷◌, map}
 use native.Mathlib.Omega.{arith}
-use Rattle.promise.specs.Told.{Told, given, refused}
+use Rattle.promise.specs.Told.{Told, given, refused, number}
 use Rattle.protocol_codes.specs.Numbers.{direction_number, code_number, status_number, reset_number, storage_number, storage_indexes}
-use Rattle.protocol_codes.specs.Reading.{by_number, known, direction_of, code_of, status_of, reset_of, storage_of, direction_read_told, code_read_told, status_read_told, reset_read_told}
+use Rattle.rule_number.specs.Number.{number_of}
+use Rattle.protocol_codes.specs.Reading.{unknown_direction_number, unknown_code_number, unknown_status_number, unknown_reset_number, by_number, known, direction_of, code_of, status_of, reset_of, storage_of, direction_read_told, code_read_told, status_read_told, reset_read_told}
 use Rattle.protocol_codes.specs.declared.Direction.{Direction}
 use Rattle.protocol_codes.specs.declared.Direction.TheVariants.{In, Out}
-use Rattle.protocol_codes.specs.declared.DirectionRead.{DirectionRead}
-use Rattle.protocol_codes.specs.declared.DirectionRead.TheVariants as direction
 use Rattle.protocol_codes.specs.declared.CommandCode.{CommandCode}
 use Rattle.protocol_codes.specs.declared.CommandCode.TheVariants.{TestUnitReady, ReadFlashId, TestBadBlock, ReadSector, WriteSector, EraseNormal, EraseForce, ReadLBA, WriteLBA, EraseSystemDisk, ReadSDram, WriteSDram, ExecuteSDram, ReadFlashInfo, ReadChipInfo, SetResetFlag, WriteEFuse, ReadEFuse, ReadSPIFlash, WriteSPIFlash, WriteNewEfuse, ReadNewEfuse, EraseLBA, SwitchStorage, GetStorageMedia, ReadCapability, DeviceReset}
-use Rattle.protocol_codes.specs.declared.CodeRead.{CodeRead}
-use Rattle.protocol_codes.specs.declared.CodeRead.TheVariants as code
 use Rattle.protocol_codes.specs.declared.Status.{Status}
 use Rattle.protocol_codes.specs.declared.Status.TheVariants.{SUCCESS, FAILED}
-use Rattle.protocol_codes.specs.declared.StatusRead.{StatusRead}
-use Rattle.protocol_codes.specs.declared.StatusRead.TheVariants as status
 use Rattle.protocol_codes.specs.declared.ResetOpcode.{ResetOpcode}
 use Rattle.protocol_codes.specs.declared.ResetOpcode.TheVariants.{Reset, MSC, PowerOff, Maskrom, Disconnect}
-use Rattle.protocol_codes.specs.declared.ResetRead.{ResetRead}
-use Rattle.protocol_codes.specs.declared.ResetRead.TheVariants as reset
 use Rattle.protocol_codes.specs.declared.StorageIndex.{StorageIndex}
 use Rattle.protocol_codes.specs.declared.StorageIndex.TheVariants.{Sd1, Unknown}
+use Rattle.std.specs.Prelude.{Result}
+use Rattle.protocol_codes.specs.declared.UnknownDirection.{UnknownDirection}
+use Rattle.std.specs.declared.result.Result.TheVariants.{Ok, Err}
+use Rattle.protocol_codes.specs.declared.UnknownCode.{UnknownCode}
+use Rattle.protocol_codes.specs.declared.UnknownStatus.{UnknownStatus}
+use Rattle.protocol_codes.specs.declared.UnknownReset.{UnknownReset}
 
 pub direction_back : (value : Direction) → direction_of (direction_number value) ≡ given value
 unfolding by_number known direction_of
@@ -92,34 +91,55 @@ module _ {A R : Type 0} (known : A → R) (unknown : ℕ → R) where
   answer_of (refused n []) = unknown 0
   answer_of (refused n (byte ∷ more)) = unknown byte
 
-direction_of_lem : (r : DirectionRead) → answer_of direction.Known direction.Unknown (direction_read_told r) ≡ r
+direction_of_lem : (r : (Result Direction UnknownDirection)) → answer_of Ok (λ n. Err (record { 0 = n })) (direction_read_told r) ≡ r
 unfolding direction_read_told
-direction_of_lem (direction.Known value) = refl
-direction_of_lem (direction.Unknown byte) = refl
+direction_of_lem (Ok value) = refl
+direction_of_lem (Err unknown) = refl
 
-pub direction_unique : (byte : ℕ) (r s : DirectionRead) → direction_read_told r ≡ direction_of byte → direction_read_told s ≡ direction_of byte → r ≡ s
-direction_unique byte r s p q = sym (direction_of_lem r) ∙ ap (answer_of direction.Known direction.Unknown) (p ∙ sym q) ∙ direction_of_lem s
+pub direction_unique : (byte : ℕ) (r s : (Result Direction UnknownDirection)) → direction_read_told r ≡ direction_of byte → direction_read_told s ≡ direction_of byte → r ≡ s
+direction_unique byte r s p q = sym (direction_of_lem r) ∙ ap (answer_of Ok (λ n. Err (record { 0 = n }))) (p ∙ sym q) ∙ direction_of_lem s
 
-code_of_lem : (r : CodeRead) → answer_of code.Known code.Unknown (code_read_told r) ≡ r
+code_of_lem : (r : (Result CommandCode UnknownCode)) → answer_of Ok (λ n. Err (record { 0 = n })) (code_read_told r) ≡ r
 unfolding code_read_told
-code_of_lem (code.Known value) = refl
-code_of_lem (code.Unknown byte) = refl
+code_of_lem (Ok value) = refl
+code_of_lem (Err unknown) = refl
 
-pub code_unique : (byte : ℕ) (r s : CodeRead) → code_read_told r ≡ code_of byte → code_read_told s ≡ code_of byte → r ≡ s
-code_unique byte r s p q = sym (code_of_lem r) ∙ ap (answer_of code.Known code.Unknown) (p ∙ sym q) ∙ code_of_lem s
+pub code_unique : (byte : ℕ) (r s : (Result CommandCode UnknownCode)) → code_read_told r ≡ code_of byte → code_read_told s ≡ code_of byte → r ≡ s
+code_unique byte r s p q = sym (code_of_lem r) ∙ ap (answer_of Ok (λ n. Err (record { 0 = n }))) (p ∙ sym q) ∙ code_of_lem s
 
-status_of_lem : (r : StatusRead) → answer_of status.Known status.Unknown (status_read_told r) ≡ r
+status_of_lem : (r : (Result Status UnknownStatus)) → answer_of Ok (λ n. Err (record { 0 = n })) (status_read_told r) ≡ r
 unfolding status_read_told
-status_of_lem (status.Known value) = refl
-status_of_lem (status.Unknown byte) = refl
+status_of_lem (Ok value) = refl
+status_of_lem (Err unknown) = refl
 
-pub status_unique : (byte : ℕ) (r s : StatusRead) → status_read_told r ≡ status_of byte → status_read_told s ≡ status_of byte → r ≡ s
-status_unique byte r s p q = sym (status_of_lem r) ∙ ap (answer_of status.Known status.Unknown) (p ∙ sym q) ∙ status_of_lem s
+pub status_unique : (byte : ℕ) (r s : (Result Status UnknownStatus)) → status_read_told r ≡ status_of byte → status_read_told s ≡ status_of byte → r ≡ s
+status_unique byte r s p q = sym (status_of_lem r) ∙ ap (answer_of Ok (λ n. Err (record { 0 = n }))) (p ∙ sym q) ∙ status_of_lem s
 
-reset_of_lem : (r : ResetRead) → answer_of reset.Known reset.Unknown (reset_read_told r) ≡ r
+reset_of_lem : (r : (Result ResetOpcode UnknownReset)) → answer_of Ok (λ n. Err (record { 0 = n })) (reset_read_told r) ≡ r
 unfolding reset_read_told
-reset_of_lem (reset.Known value) = refl
-reset_of_lem (reset.Unknown byte) = refl
+reset_of_lem (Ok value) = refl
+reset_of_lem (Err unknown) = refl
 
-pub reset_unique : (byte : ℕ) (r s : ResetRead) → reset_read_told r ≡ reset_of byte → reset_read_told s ≡ reset_of byte → r ≡ s
-reset_unique byte r s p q = sym (reset_of_lem r) ∙ ap (answer_of reset.Known reset.Unknown) (p ∙ sym q) ∙ reset_of_lem s
+pub reset_unique : (byte : ℕ) (r s : (Result ResetOpcode UnknownReset)) → reset_read_told r ≡ reset_of byte → reset_read_told s ≡ reset_of byte → r ≡ s
+reset_unique byte r s p q = sym (reset_of_lem r) ∙ ap (answer_of Ok (λ n. Err (record { 0 = n }))) (p ∙ sym q) ∙ reset_of_lem s
+
+-- the number of what is read is the number of what it tells
+pub direction_read_number : (r : Result Direction UnknownDirection) → number (direction_read_told r) ≡ number_of unknown_direction_number r
+unfolding number direction_read_told
+direction_read_number (Ok value) = refl
+direction_read_number (Err unknown) = refl
+
+pub code_read_number : (r : Result CommandCode UnknownCode) → number (code_read_told r) ≡ number_of unknown_code_number r
+unfolding number code_read_told
+code_read_number (Ok value) = refl
+code_read_number (Err unknown) = refl
+
+pub status_read_number : (r : Result Status UnknownStatus) → number (status_read_told r) ≡ number_of unknown_status_number r
+unfolding number status_read_told
+status_read_number (Ok value) = refl
+status_read_number (Err unknown) = refl
+
+pub reset_read_number : (r : Result ResetOpcode UnknownReset) → number (reset_read_told r) ≡ number_of unknown_reset_number r
+unfolding number reset_read_told
+reset_read_number (Ok value) = refl
+reset_read_number (Err unknown) = refl

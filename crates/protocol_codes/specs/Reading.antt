@@ -1,5 +1,6 @@
 -- What a number is read as: the value whose number it is, and a refusal that tells the number where there is none.
-use Rattle.std.specs.Prelude.{ℕ, List, [], ◌∷◌, eqb}
+use Rattle.std.specs.Prelude.{ℕ, List, [], ◌∷◌, eqb, Result}
+use Rattle.std.specs.declared.result.Result.TheVariants.{Ok, Err}
 use Rattle.promise.specs.Told.{Told, given, refused}
 use Rattle.promise.specs.Rules.{pick}
 use Rattle.protocol_codes.specs.Numbers.{code_number, command_codes, direction_number, directions, status_number, statuses, reset_number, reset_opcodes, storage_number, storage_indexes}
@@ -8,14 +9,10 @@ use Rattle.protocol_codes.specs.declared.CommandCode.{CommandCode}
 use Rattle.protocol_codes.specs.declared.Status.{Status}
 use Rattle.protocol_codes.specs.declared.ResetOpcode.{ResetOpcode}
 use Rattle.protocol_codes.specs.declared.StorageIndex.{StorageIndex}
-use Rattle.protocol_codes.specs.declared.DirectionRead.{DirectionRead}
-use Rattle.protocol_codes.specs.declared.DirectionRead.TheVariants as direction
-use Rattle.protocol_codes.specs.declared.CodeRead.{CodeRead}
-use Rattle.protocol_codes.specs.declared.CodeRead.TheVariants as code
-use Rattle.protocol_codes.specs.declared.StatusRead.{StatusRead}
-use Rattle.protocol_codes.specs.declared.StatusRead.TheVariants as status
-use Rattle.protocol_codes.specs.declared.ResetRead.{ResetRead}
-use Rattle.protocol_codes.specs.declared.ResetRead.TheVariants as reset
+use Rattle.protocol_codes.specs.declared.UnknownDirection.{UnknownDirection}
+use Rattle.protocol_codes.specs.declared.UnknownCode.{UnknownCode}
+use Rattle.protocol_codes.specs.declared.UnknownStatus.{UnknownStatus}
+use Rattle.protocol_codes.specs.declared.UnknownReset.{UnknownReset}
 use Rattle.protocol_codes.specs.declared.StorageIndex.TheVariants as storage
 
 -- the first of a list whose number is n, as `found` takes it; `otherwise` where no number of the list is n
@@ -31,33 +28,45 @@ known refusal number values byte = by_number given (refused refusal (byte ∷ []
 unfoldable pub direction_of : ℕ → Told Direction
 direction_of byte = known 3 direction_number directions byte
 
-unfoldable pub direction_read_told : DirectionRead → Told Direction
-direction_read_told (direction.Known value) = given value
-direction_read_told (direction.Unknown byte) = refused 3 (byte ∷ [])
+abbrev pub unknown_direction_number : UnknownDirection → ℕ
+unknown_direction_number unknown = 3
+
+unfoldable pub direction_read_told : Result Direction UnknownDirection → Told Direction
+direction_read_told (Ok value) = given value
+direction_read_told (Err unknown) = refused (unknown_direction_number unknown) (unknown.0 ∷ [])
 
 -- 4: a code that is not listed
 unfoldable pub code_of : ℕ → Told CommandCode
 code_of byte = known 4 code_number command_codes byte
 
-unfoldable pub code_read_told : CodeRead → Told CommandCode
-code_read_told (code.Known value) = given value
-code_read_told (code.Unknown byte) = refused 4 (byte ∷ [])
+abbrev pub unknown_code_number : UnknownCode → ℕ
+unknown_code_number unknown = 4
+
+unfoldable pub code_read_told : Result CommandCode UnknownCode → Told CommandCode
+code_read_told (Ok value) = given value
+code_read_told (Err unknown) = refused (unknown_code_number unknown) (unknown.0 ∷ [])
 
 -- 7: a status above 1
 unfoldable pub status_of : ℕ → Told Status
 status_of byte = known 7 status_number statuses byte
 
-unfoldable pub status_read_told : StatusRead → Told Status
-status_read_told (status.Known value) = given value
-status_read_told (status.Unknown byte) = refused 7 (byte ∷ [])
+abbrev pub unknown_status_number : UnknownStatus → ℕ
+unknown_status_number unknown = 7
+
+unfoldable pub status_read_told : Result Status UnknownStatus → Told Status
+status_read_told (Ok value) = given value
+status_read_told (Err unknown) = refused (unknown_status_number unknown) (unknown.0 ∷ [])
 
 -- 52: a reset's opcode above 4
 unfoldable pub reset_of : ℕ → Told ResetOpcode
 reset_of byte = known 52 reset_number reset_opcodes byte
 
-unfoldable pub reset_read_told : ResetRead → Told ResetOpcode
-reset_read_told (reset.Known value) = given value
-reset_read_told (reset.Unknown byte) = refused 52 (byte ∷ [])
+abbrev pub unknown_reset_number : UnknownReset → ℕ
+unknown_reset_number unknown = 52
+
+unfoldable pub reset_read_told : Result ResetOpcode UnknownReset → Told ResetOpcode
+reset_read_told (Ok value) = given value
+reset_read_told (Err unknown) = refused (unknown_reset_number unknown) (unknown.0 ∷ [])
 
 -- 0 to 12 named, any other unknown by its number
 unfoldable pub storage_of : ℕ → StorageIndex

@@ -4,292 +4,237 @@
 #![tactic(auto)]
 
 ghost use Rattle.std.specs.Prelude.{◌≡◌};
-ghost use Rattle.promise.specs.Told as told;
 ghost use Rattle.protocol_codes.specs.Numbers.{code_number, direction_number, status_number, reset_number, storage_number};
-ghost use Rattle.protocol_codes.specs.Reading.{code_of, code_read_told, direction_of, direction_read_told, status_of, status_read_told, reset_of, reset_read_told, storage_of};
+ghost use Rattle.protocol_codes.specs.Reading.{code_of, code_read_told, direction_of, direction_read_told, status_of, status_read_told, reset_of, reset_read_told, storage_of, unknown_direction_number, unknown_code_number, unknown_status_number, unknown_reset_number};
+
+use rule_number::RuleNumber;
 
 // Which way the data of a command goes, seen from the host.
-#[derive(Clone, Copy)]
+#[derive(Clone, Copy, Debug, PartialEq, Eq)]
 pub enum Direction {
-    In,
-    Out,
+    In = 0x80,
+    Out = 0x00,
 }
 
-// A flags byte read: 3 with the byte where it is no direction.
-#[derive(Clone, Copy)]
-pub enum DirectionRead {
-    Known(Direction),
-    Unknown(u8),
-}
+// 3: a flags byte that is no direction.
+#[derive(Clone, Copy, Debug, PartialEq, Eq)]
+pub struct UnknownDirection(pub u8);
 
-impl DirectionRead {
-    // Its number in the rules, 0 where the byte is a direction.
-    #[tactic(auto, unfolding(promise::specs::Told::number, crate::specs::Reading::direction_read_told))]
-    pub fn number(self) -> u8
-        ensures { result ≡ told.number (direction_read_told self) }
-    {
-        match self {
-            DirectionRead::Known(_) => 0,
-            DirectionRead::Unknown(_) => 3,
-        }
+impl RuleNumber for UnknownDirection {
+    ghost rule_number = { unknown_direction_number };
+
+    fn number(self) -> u8 {
+        3
     }
 }
 
-impl Direction {
-    pub fn number(self) -> u8
-        ensures { result ≡ direction_number self }
-    {
-        match self {
-            Direction::In => 0x80,
-            Direction::Out => 0x00,
-        }
+impl From<Direction> for u8 {
+    ghost from_gives = { λ direction number. number ≡ direction_number direction };
+
+    fn from(direction: Direction) -> u8 {
+        direction as u8
     }
+}
+
+impl TryFrom<u8> for Direction {
+    type Error = UnknownDirection;
+
+    ghost try_from_gives = { λ number read. direction_read_told read ≡ direction_of number };
 
     #[tactic(auto, unfolding(crate::specs::Reading::by_number, crate::specs::Reading::known, crate::specs::Reading::direction_of, crate::specs::Reading::direction_read_told))]
-    pub fn from_number(number: u8) -> DirectionRead
-        ensures { direction_read_told result ≡ direction_of number }
-    {
+    fn try_from(number: u8) -> Result<Direction, UnknownDirection> {
         match number {
-            0x80 => DirectionRead::Known(Direction::In),
-            0x00 => DirectionRead::Known(Direction::Out),
-            _ => DirectionRead::Unknown(number),
+            0x80 => Ok(Direction::In),
+            0x00 => Ok(Direction::Out),
+            _ => Err(UnknownDirection(number)),
         }
     }
 }
 
 // What a command asks the device to do.
-#[derive(Clone, Copy)]
+#[derive(Clone, Copy, Debug, PartialEq, Eq)]
 pub enum CommandCode {
-    TestUnitReady,
-    ReadFlashId,
-    TestBadBlock,
-    ReadSector,
-    WriteSector,
-    EraseNormal,
-    EraseForce,
-    ReadLBA,
-    WriteLBA,
-    EraseSystemDisk,
-    ReadSDram,
-    WriteSDram,
-    ExecuteSDram,
-    ReadFlashInfo,
-    ReadChipInfo,
-    SetResetFlag,
-    WriteEFuse,
-    ReadEFuse,
-    ReadSPIFlash,
-    WriteSPIFlash,
-    WriteNewEfuse,
-    ReadNewEfuse,
-    EraseLBA,
-    SwitchStorage,
-    GetStorageMedia,
-    ReadCapability,
-    DeviceReset,
+    TestUnitReady = 0x00,
+    ReadFlashId = 0x01,
+    TestBadBlock = 0x03,
+    ReadSector = 0x04,
+    WriteSector = 0x05,
+    EraseNormal = 0x06,
+    EraseForce = 0x0B,
+    ReadLBA = 0x14,
+    WriteLBA = 0x15,
+    EraseSystemDisk = 0x16,
+    ReadSDram = 0x17,
+    WriteSDram = 0x18,
+    ExecuteSDram = 0x19,
+    ReadFlashInfo = 0x1A,
+    ReadChipInfo = 0x1B,
+    SetResetFlag = 0x1E,
+    WriteEFuse = 0x1F,
+    ReadEFuse = 0x20,
+    ReadSPIFlash = 0x21,
+    WriteSPIFlash = 0x22,
+    WriteNewEfuse = 0x23,
+    ReadNewEfuse = 0x24,
+    EraseLBA = 0x25,
+    SwitchStorage = 0x2A,
+    GetStorageMedia = 0x2B,
+    ReadCapability = 0xAA,
+    DeviceReset = 0xFF,
 }
 
-// A code byte read: 4 with the byte where it is not listed.
-#[derive(Clone, Copy)]
-pub enum CodeRead {
-    Known(CommandCode),
-    Unknown(u8),
-}
+// 4: a code byte that is not listed.
+#[derive(Clone, Copy, Debug, PartialEq, Eq)]
+pub struct UnknownCode(pub u8);
 
-impl CodeRead {
-    // Its number in the rules, 0 where the byte is a code.
-    #[tactic(auto, unfolding(promise::specs::Told::number, crate::specs::Reading::code_read_told))]
-    pub fn number(self) -> u8
-        ensures { result ≡ told.number (code_read_told self) }
-    {
-        match self {
-            CodeRead::Known(_) => 0,
-            CodeRead::Unknown(_) => 4,
-        }
+impl RuleNumber for UnknownCode {
+    ghost rule_number = { unknown_code_number };
+
+    fn number(self) -> u8 {
+        4
     }
 }
 
-impl CommandCode {
-    pub fn number(self) -> u8
-        ensures { result ≡ code_number self }
-    {
-        match self {
-            CommandCode::TestUnitReady => 0x00,
-            CommandCode::ReadFlashId => 0x01,
-            CommandCode::TestBadBlock => 0x03,
-            CommandCode::ReadSector => 0x04,
-            CommandCode::WriteSector => 0x05,
-            CommandCode::EraseNormal => 0x06,
-            CommandCode::EraseForce => 0x0B,
-            CommandCode::ReadLBA => 0x14,
-            CommandCode::WriteLBA => 0x15,
-            CommandCode::EraseSystemDisk => 0x16,
-            CommandCode::ReadSDram => 0x17,
-            CommandCode::WriteSDram => 0x18,
-            CommandCode::ExecuteSDram => 0x19,
-            CommandCode::ReadFlashInfo => 0x1A,
-            CommandCode::ReadChipInfo => 0x1B,
-            CommandCode::SetResetFlag => 0x1E,
-            CommandCode::WriteEFuse => 0x1F,
-            CommandCode::ReadEFuse => 0x20,
-            CommandCode::ReadSPIFlash => 0x21,
-            CommandCode::WriteSPIFlash => 0x22,
-            CommandCode::WriteNewEfuse => 0x23,
-            CommandCode::ReadNewEfuse => 0x24,
-            CommandCode::EraseLBA => 0x25,
-            CommandCode::SwitchStorage => 0x2A,
-            CommandCode::GetStorageMedia => 0x2B,
-            CommandCode::ReadCapability => 0xAA,
-            CommandCode::DeviceReset => 0xFF,
-        }
+impl From<CommandCode> for u8 {
+    ghost from_gives = { λ code number. number ≡ code_number code };
+
+    fn from(code: CommandCode) -> u8 {
+        code as u8
     }
+}
+
+impl TryFrom<u8> for CommandCode {
+    type Error = UnknownCode;
+
+    ghost try_from_gives = { λ number read. code_read_told read ≡ code_of number };
 
     #[tactic(auto, unfolding(crate::specs::Reading::by_number, crate::specs::Reading::known, crate::specs::Reading::code_of, crate::specs::Reading::code_read_told))]
-    pub fn from_number(number: u8) -> CodeRead
-        ensures { code_read_told result ≡ code_of number }
-    {
+    fn try_from(number: u8) -> Result<CommandCode, UnknownCode> {
         match number {
-            0x00 => CodeRead::Known(CommandCode::TestUnitReady),
-            0x01 => CodeRead::Known(CommandCode::ReadFlashId),
-            0x03 => CodeRead::Known(CommandCode::TestBadBlock),
-            0x04 => CodeRead::Known(CommandCode::ReadSector),
-            0x05 => CodeRead::Known(CommandCode::WriteSector),
-            0x06 => CodeRead::Known(CommandCode::EraseNormal),
-            0x0B => CodeRead::Known(CommandCode::EraseForce),
-            0x14 => CodeRead::Known(CommandCode::ReadLBA),
-            0x15 => CodeRead::Known(CommandCode::WriteLBA),
-            0x16 => CodeRead::Known(CommandCode::EraseSystemDisk),
-            0x17 => CodeRead::Known(CommandCode::ReadSDram),
-            0x18 => CodeRead::Known(CommandCode::WriteSDram),
-            0x19 => CodeRead::Known(CommandCode::ExecuteSDram),
-            0x1A => CodeRead::Known(CommandCode::ReadFlashInfo),
-            0x1B => CodeRead::Known(CommandCode::ReadChipInfo),
-            0x1E => CodeRead::Known(CommandCode::SetResetFlag),
-            0x1F => CodeRead::Known(CommandCode::WriteEFuse),
-            0x20 => CodeRead::Known(CommandCode::ReadEFuse),
-            0x21 => CodeRead::Known(CommandCode::ReadSPIFlash),
-            0x22 => CodeRead::Known(CommandCode::WriteSPIFlash),
-            0x23 => CodeRead::Known(CommandCode::WriteNewEfuse),
-            0x24 => CodeRead::Known(CommandCode::ReadNewEfuse),
-            0x25 => CodeRead::Known(CommandCode::EraseLBA),
-            0x2A => CodeRead::Known(CommandCode::SwitchStorage),
-            0x2B => CodeRead::Known(CommandCode::GetStorageMedia),
-            0xAA => CodeRead::Known(CommandCode::ReadCapability),
-            0xFF => CodeRead::Known(CommandCode::DeviceReset),
-            _ => CodeRead::Unknown(number),
+            0x00 => Ok(CommandCode::TestUnitReady),
+            0x01 => Ok(CommandCode::ReadFlashId),
+            0x03 => Ok(CommandCode::TestBadBlock),
+            0x04 => Ok(CommandCode::ReadSector),
+            0x05 => Ok(CommandCode::WriteSector),
+            0x06 => Ok(CommandCode::EraseNormal),
+            0x0B => Ok(CommandCode::EraseForce),
+            0x14 => Ok(CommandCode::ReadLBA),
+            0x15 => Ok(CommandCode::WriteLBA),
+            0x16 => Ok(CommandCode::EraseSystemDisk),
+            0x17 => Ok(CommandCode::ReadSDram),
+            0x18 => Ok(CommandCode::WriteSDram),
+            0x19 => Ok(CommandCode::ExecuteSDram),
+            0x1A => Ok(CommandCode::ReadFlashInfo),
+            0x1B => Ok(CommandCode::ReadChipInfo),
+            0x1E => Ok(CommandCode::SetResetFlag),
+            0x1F => Ok(CommandCode::WriteEFuse),
+            0x20 => Ok(CommandCode::ReadEFuse),
+            0x21 => Ok(CommandCode::ReadSPIFlash),
+            0x22 => Ok(CommandCode::WriteSPIFlash),
+            0x23 => Ok(CommandCode::WriteNewEfuse),
+            0x24 => Ok(CommandCode::ReadNewEfuse),
+            0x25 => Ok(CommandCode::EraseLBA),
+            0x2A => Ok(CommandCode::SwitchStorage),
+            0x2B => Ok(CommandCode::GetStorageMedia),
+            0xAA => Ok(CommandCode::ReadCapability),
+            0xFF => Ok(CommandCode::DeviceReset),
+            _ => Err(UnknownCode(number)),
         }
     }
 }
 
 // How the device says that a command went.
-#[derive(Clone, Copy)]
+#[derive(Clone, Copy, Debug, PartialEq, Eq)]
 pub enum Status {
-    SUCCESS,
-    FAILED,
+    SUCCESS = 0,
+    FAILED = 1,
 }
 
-// A status byte read: 7 with the byte where it is above 1.
-#[derive(Clone, Copy)]
-pub enum StatusRead {
-    Known(Status),
-    Unknown(u8),
-}
+// 7: a status byte above 1.
+#[derive(Clone, Copy, Debug, PartialEq, Eq)]
+pub struct UnknownStatus(pub u8);
 
-impl StatusRead {
-    // Its number in the rules, 0 where the byte is a status.
-    #[tactic(auto, unfolding(promise::specs::Told::number, crate::specs::Reading::status_read_told))]
-    pub fn number(self) -> u8
-        ensures { result ≡ told.number (status_read_told self) }
-    {
-        match self {
-            StatusRead::Known(_) => 0,
-            StatusRead::Unknown(_) => 7,
-        }
+impl RuleNumber for UnknownStatus {
+    ghost rule_number = { unknown_status_number };
+
+    fn number(self) -> u8 {
+        7
     }
 }
 
-impl Status {
-    pub fn number(self) -> u8
-        ensures { result ≡ status_number self }
-    {
-        match self {
-            Status::SUCCESS => 0,
-            Status::FAILED => 1,
-        }
+impl From<Status> for u8 {
+    ghost from_gives = { λ status number. number ≡ status_number status };
+
+    fn from(status: Status) -> u8 {
+        status as u8
     }
+}
+
+impl TryFrom<u8> for Status {
+    type Error = UnknownStatus;
+
+    ghost try_from_gives = { λ number read. status_read_told read ≡ status_of number };
 
     #[tactic(auto, unfolding(crate::specs::Reading::by_number, crate::specs::Reading::known, crate::specs::Reading::status_of, crate::specs::Reading::status_read_told))]
-    pub fn from_number(number: u8) -> StatusRead
-        ensures { status_read_told result ≡ status_of number }
-    {
+    fn try_from(number: u8) -> Result<Status, UnknownStatus> {
         match number {
-            0 => StatusRead::Known(Status::SUCCESS),
-            1 => StatusRead::Known(Status::FAILED),
-            _ => StatusRead::Unknown(number),
+            0 => Ok(Status::SUCCESS),
+            1 => Ok(Status::FAILED),
+            _ => Err(UnknownStatus(number)),
         }
     }
 }
 
 // What the device becomes after a reset.
-#[derive(Clone, Copy)]
+#[derive(Clone, Copy, Debug, PartialEq, Eq)]
 pub enum ResetOpcode {
-    Reset,
-    MSC,
-    PowerOff,
-    Maskrom,
-    Disconnect,
+    Reset = 0,
+    MSC = 1,
+    PowerOff = 2,
+    Maskrom = 3,
+    Disconnect = 4,
 }
 
-// A reset's opcode read: 52 with the byte where it is above 4.
-#[derive(Clone, Copy)]
-pub enum ResetRead {
-    Known(ResetOpcode),
-    Unknown(u8),
-}
+// 52: a reset's opcode above 4.
+#[derive(Clone, Copy, Debug, PartialEq, Eq)]
+pub struct UnknownReset(pub u8);
 
-impl ResetRead {
-    // Its number in the rules, 0 where the byte is an opcode.
-    #[tactic(auto, unfolding(promise::specs::Told::number, crate::specs::Reading::reset_read_told))]
-    pub fn number(self) -> u8
-        ensures { result ≡ told.number (reset_read_told self) }
-    {
-        match self {
-            ResetRead::Known(_) => 0,
-            ResetRead::Unknown(_) => 52,
-        }
+impl RuleNumber for UnknownReset {
+    ghost rule_number = { unknown_reset_number };
+
+    fn number(self) -> u8 {
+        52
     }
 }
 
-impl ResetOpcode {
-    pub fn number(self) -> u8
-        ensures { result ≡ reset_number self }
-    {
-        match self {
-            ResetOpcode::Reset => 0,
-            ResetOpcode::MSC => 1,
-            ResetOpcode::PowerOff => 2,
-            ResetOpcode::Maskrom => 3,
-            ResetOpcode::Disconnect => 4,
-        }
+impl From<ResetOpcode> for u8 {
+    ghost from_gives = { λ opcode number. number ≡ reset_number opcode };
+
+    fn from(opcode: ResetOpcode) -> u8 {
+        opcode as u8
     }
+}
+
+impl TryFrom<u8> for ResetOpcode {
+    type Error = UnknownReset;
+
+    ghost try_from_gives = { λ number read. reset_read_told read ≡ reset_of number };
 
     #[tactic(auto, unfolding(crate::specs::Reading::by_number, crate::specs::Reading::known, crate::specs::Reading::reset_of, crate::specs::Reading::reset_read_told))]
-    pub fn from_number(number: u8) -> ResetRead
-        ensures { reset_read_told result ≡ reset_of number }
-    {
+    fn try_from(number: u8) -> Result<ResetOpcode, UnknownReset> {
         match number {
-            0 => ResetRead::Known(ResetOpcode::Reset),
-            1 => ResetRead::Known(ResetOpcode::MSC),
-            2 => ResetRead::Known(ResetOpcode::PowerOff),
-            3 => ResetRead::Known(ResetOpcode::Maskrom),
-            4 => ResetRead::Known(ResetOpcode::Disconnect),
-            _ => ResetRead::Unknown(number),
+            0 => Ok(ResetOpcode::Reset),
+            1 => Ok(ResetOpcode::MSC),
+            2 => Ok(ResetOpcode::PowerOff),
+            3 => Ok(ResetOpcode::Maskrom),
+            4 => Ok(ResetOpcode::Disconnect),
+            _ => Err(UnknownReset(number)),
         }
     }
 }
 
 // A storage medium by its place among the boot types: every byte is one, by name or by its number.
-#[derive(Clone, Copy)]
+#[derive(Clone, Copy, Debug, PartialEq, Eq)]
 pub enum StorageIndex {
     Nand,
     Emmc,
@@ -307,11 +252,11 @@ pub enum StorageIndex {
     Unknown(u8),
 }
 
-impl StorageIndex {
-    pub fn number(self) -> u8
-        ensures { result ≡ storage_number self }
-    {
-        match self {
+impl From<StorageIndex> for u8 {
+    ghost from_gives = { λ index number. number ≡ storage_number index };
+
+    fn from(index: StorageIndex) -> u8 {
+        match index {
             StorageIndex::Nand => 0,
             StorageIndex::Emmc => 1,
             StorageIndex::Sd0 => 2,
@@ -328,11 +273,13 @@ impl StorageIndex {
             StorageIndex::Unknown(number) => number,
         }
     }
+}
+
+impl From<u8> for StorageIndex {
+    ghost from_gives = { λ number index. index ≡ storage_of number };
 
     #[tactic(auto, unfolding(crate::specs::Reading::by_number, crate::specs::Reading::storage_of))]
-    pub fn from_number(number: u8) -> StorageIndex
-        ensures { result ≡ storage_of number }
-    {
+    fn from(number: u8) -> StorageIndex {
         match number {
             0 => StorageIndex::Nand,
             1 => StorageIndex::Emmc,

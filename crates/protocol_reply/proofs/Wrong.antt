@@ -14,16 +14,17 @@ use Rattle.protocol_reply.specs.declared.info.ChipInfo.{ChipInfo}
 use Rattle.protocol_reply.specs.declared.info.FlashId.{FlashId}
 use Rattle.protocol_reply.specs.declared.info.FlashInfo.{FlashInfo}
 use Rattle.protocol_reply.specs.declared.flags.Capability.{Capability}
-use Rattle.protocol_reply.specs.declared.media.StorageAnswer.{StorageAnswer}
-use Rattle.protocol_reply.specs.declared.media.StorageAnswer.TheVariants.{Index, ReplyParseFailure}
 use Rattle.protocol_reply.specs.declared.size.SectorCount.{SectorCount}
-use Rattle.protocol_reply.specs.declared.size.SectorAnswer.{SectorAnswer}
-use Rattle.protocol_reply.specs.declared.size.SectorAnswer.TheVariants.{Count, NotSectors, TooMany}
 use Rattle.protocol_reply.specs.Info.{info_sectors, flash_size, block_size_sectors}
 use Rattle.protocol_reply.specs.Flags.{Flag, has_flag, direct_lba, vendor_storage, first4m_access, read_lba, read_com_log, read_idb_config, read_secure_mode, new_idb, switch_storage}
 use Rattle.protocol_reply.specs.Media.{places_set, only_place, read_storage, storage_told}
 use Rattle.protocol_reply.specs.Sectors.{sectors_in, sector_told}
 use Rattle.protocol_reply.proofs.Examples.{p11}
+use Rattle.std.specs.Prelude.{Result}
+use Rattle.protocol_reply.specs.declared.media.NotOneBit.{NotOneBit}
+use Rattle.std.specs.declared.result.Result.TheVariants.{Ok, Err}
+use Rattle.protocol_reply.specs.declared.size.SectorError.{SectorError}
+use Rattle.protocol_reply.specs.declared.size.SectorError.TheVariants as sector_error
 
 -- two lists that differ in their first byte
 first_apart : (r a b : List ℕ) → (get_or a 0 0 ≡ get_or b 0 0 → ⊥) → r ≡ a → r ≡ b → ⊥
@@ -152,40 +153,40 @@ pub flag_moved : TellsApart direct_lba vendor_storage × TellsApart vendor_stora
 flag_moved = (not_set, not_set, not_set, not_set, not_set, not_set, not_set, not_set, not_set)
 
 -- a storage reply with two bits taken for one
-pub two_bits_taken : (r : StorageAnswer) (index : StorageIndex) → storage_told r ≡ given index → storage_told r ≡ read_storage (0x03 ∷ 0x00 ∷ 0x00 ∷ 0x00 ∷ []) → ⊥
+pub two_bits_taken : (r : Result StorageIndex NotOneBit) (index : StorageIndex) → storage_told r ≡ given index → storage_told r ≡ read_storage (0x03 ∷ 0x00 ∷ 0x00 ∷ 0x00 ∷ []) → ⊥
 two_bits_taken r index told meets = let z : ◌≡◌ {A = ℕ} 0 1 = cc (told, meets, p11) in omega arith
 
 -- the place of the bit counted from the top: bit 1 would be index 30
-pub bit_counted_from_the_top : storage_told (Index (storage_of 30)) ≡ read_storage (0x02 ∷ 0x00 ∷ 0x00 ∷ 0x00 ∷ []) → ⊥
+pub bit_counted_from_the_top : storage_told (Ok (storage_of 30)) ≡ read_storage (0x02 ∷ 0x00 ∷ 0x00 ∷ 0x00 ∷ []) → ⊥
 unfolding storage_told read_storage only_place places_set from_low storage_of by_number
 bit_counted_from_the_top e = let z : ◌≡◌ {A = ℕ} 0 1 = cc in omega arith
 
 -- half a sector taken for one
-pub half_a_sector_taken : (r : SectorAnswer) (count : SectorCount) → sector_told r ≡ given count → sector_told r ≡ sectors_in 256 → ⊥
+pub half_a_sector_taken : (r : Result SectorCount SectorError) (count : SectorCount) → sector_told r ≡ given count → sector_told r ≡ sectors_in 256 → ⊥
 unfolding sectors_in or_refuse
 half_a_sector_taken r count told meets = let z : ◌≡◌ {A = ℕ} 0 1 = cc in omega arith
 
 -- one sector more than a command can name
-pub one_sector_too_many : (r : SectorAnswer) (count : SectorCount) → sector_told r ≡ given count → sector_told r ≡ sectors_in 33554432 → ⊥
+pub one_sector_too_many : (r : Result SectorCount SectorError) (count : SectorCount) → sector_told r ≡ given count → sector_told r ≡ sectors_in 33554432 → ⊥
 unfolding sectors_in or_refuse
 one_sector_too_many r count told meets = let z : ◌≡◌ {A = ℕ} 0 1 = cc in omega arith
 
--- `SectorAnswer::number` with one number for both refusals
-pub one_number_for_lengths : (n : ℕ) → n ≡ number (sector_told NotSectors) → n ≡ number (sector_told TooMany) → ⊥
+-- `number` of a sector answer with one number for both refusals
+pub one_number_for_lengths : (n : ℕ) → n ≡ number (sector_told (Err sector_error.NotSectors)) → n ≡ number (sector_told (Err sector_error.TooMany)) → ⊥
 unfolding number sector_told
 one_number_for_lengths n e f = omega arith
 
--- `SectorAnswer::number` that tells the count where there is one
-pub count_for_number : 8 ≡ number (sector_told (Count (record { 0 = 8 }))) → ⊥
+-- `number` of a sector answer that tells the count where there is one
+pub count_for_number : 8 ≡ number (sector_told (Ok (record { 0 = 8 }))) → ⊥
 unfolding number sector_told
 count_for_number e = omega arith
 
--- `StorageAnswer::number` that tells 0 for a refusal
-pub refusal_told_as_0 : 0 ≡ number (storage_told ReplyParseFailure) → ⊥
+-- `number` of a storage answer that tells 0 for a refusal
+pub refusal_told_as_0 : 0 ≡ number (storage_told (Err (record {}))) → ⊥
 unfolding number storage_told
 refusal_told_as_0 e = omega arith
 
--- `StorageAnswer::number` that tells 14 where there is an index
-pub index_told_as_refusal : (index : StorageIndex) → 14 ≡ number (storage_told (Index index)) → ⊥
+-- `number` of a storage answer that tells 14 where there is an index
+pub index_told_as_refusal : (index : StorageIndex) → 14 ≡ number (storage_told (Ok index)) → ⊥
 unfolding number storage_told
 index_told_as_refusal index e = omega arith

@@ -5,8 +5,9 @@ use Rattle.promise.specs.Rules.{pick}
 use Rattle.promise.specs.Bytes.{from_low}
 use Rattle.protocol_codes.specs.Reading.{storage_of}
 use Rattle.protocol_codes.specs.declared.StorageIndex.{StorageIndex}
-use Rattle.protocol_reply.specs.declared.media.StorageAnswer.{StorageAnswer}
-use Rattle.protocol_reply.specs.declared.media.StorageAnswer.TheVariants.{Index, ReplyParseFailure}
+use Rattle.std.specs.Prelude.{Result}
+use Rattle.protocol_reply.specs.declared.media.NotOneBit.{NotOneBit}
+use Rattle.std.specs.declared.result.Result.TheVariants.{Ok, Err}
 
 -- 14: the reply can't be parsed
 abbrev pub reply_parse_failure : ℕ
@@ -26,6 +27,9 @@ only_place (p ∷ q ∷ more) = refused reply_parse_failure []
 unfoldable pub read_storage : List ℕ → Told StorageIndex
 read_storage reply = only_place (places_set 32 0 (from_low reply))
 
-unfoldable pub storage_told : StorageAnswer → Told StorageIndex
-storage_told (Index index) = given index
-storage_told ReplyParseFailure = refused reply_parse_failure []
+abbrev pub not_one_bit_number : NotOneBit → ℕ
+not_one_bit_number refusal = reply_parse_failure
+
+unfoldable pub storage_told : Result StorageIndex NotOneBit → Told StorageIndex
+storage_told (Ok index) = given index
+storage_told (Err e) = refused reply_parse_failure []

@@ -17,12 +17,13 @@ use Rattle.protocol_codes.specs.declared.Status.{Status}
 use Rattle.protocol_codes.proofs.Reading.{known_refused}
 use Rattle.protocol_bytes.specs.Signature.{usbs, same, signature_in}
 use Rattle.protocol_status.specs.declared.report.CommandStatus.{CommandStatus}
-use Rattle.protocol_status.specs.declared.report.StatusParse.{StatusParse}
-use Rattle.protocol_status.specs.declared.report.StatusAnswer.TheVariants.{Block, Refused}
+use Rattle.protocol_bytes.specs.declared.signature.Parse.{Parse}
+use Rattle.protocol_status.specs.declared.report.CommandStatusParseError.{CommandStatusParseError}
 use Rattle.protocol_status.specs.declared.report.CommandStatusParseError.TheVariants.{InvalidSignature, InvalidLength, InvalidStatus}
 use Rattle.protocol_status.specs.StatusBytes.{report_of, read_status}
 use Rattle.protocol_status.specs.StatusMeets.{status_error_told, status_told, StatusMeets}
-use Rattle.protocol_status.specs.Code.{parsed}
+use Rattle.protocol_bytes.specs.Signature.{parsed}
+use Rattle.std.specs.declared.result.Result.TheVariants.{Ok, Err}
 
 module _ (bytes : List ℕ) where
   pub read_short : length bytes < 13 → read_status bytes ≡ refused 5 (length bytes ∷ [])
@@ -38,24 +39,24 @@ module _ (bytes : List ℕ) where
   unfolding read_status or_refuse
   read_signed enough own = rw (le-ltb (length bytes) 13 enough, own) refl
 
-  module _ (r : StatusParse) where
-    pub meets_short : length bytes < 13 → r ≡ parsed (Refused (InvalidLength (length bytes))) → StatusMeets r (read_status bytes)
+  module _ (r : Parse CommandStatus CommandStatusParseError) where
+    pub meets_short : length bytes < 13 → r ≡ parsed (Err (InvalidLength (length bytes))) → StatusMeets r (read_status bytes)
     unfolding status_told status_error_told signature_in
     meets_short few e = rw (read_short few, e) (record { tells = refl; signature = refl })
 
-    pub meets_unsigned : 13 ≤ length bytes → same (take 4 bytes) usbs ≡ false → r.answer ≡ Refused InvalidSignature → r.signature ≡ take 4 bytes
+    pub meets_unsigned : 13 ≤ length bytes → same (take 4 bytes) usbs ≡ false → r.answer ≡ Err InvalidSignature → r.signature ≡ take 4 bytes
         → StatusMeets r (read_status bytes)
     unfolding status_told status_error_told signature_in
     meets_unsigned enough other a s = rw (read_unsigned enough other) (record { tells = rw (a, s) refl; signature = s })
 
     pub meets_unknown : (m : ℕ) (vs : List ℕ) → 13 ≤ length bytes → same (take 4 bytes) usbs ≡ true → status_of (get_or bytes 12 0) ≡ refused m vs
-        → r ≡ parsed (Refused (InvalidStatus (get_or bytes 12 0))) → StatusMeets r (read_status bytes)
+        → r ≡ parsed (Err (InvalidStatus (get_or bytes 12 0))) → StatusMeets r (read_status bytes)
     unfolding status_told status_error_told signature_in and_then status_of
     meets_unknown m vs enough own unknown e =
         rw (read_signed enough own, known_refused 7 status_number statuses (get_or bytes 12 0) m vs unknown, e) (record { tells = refl; signature = refl })
 
     pub meets_given : (status : Status) → 13 ≤ length bytes → same (take 4 bytes) usbs ≡ true → status_of (get_or bytes 12 0) ≡ given status
-        → r ≡ parsed (Block (report_of bytes status)) → StatusMeets r (read_status bytes)
+        → r ≡ parsed (Ok (report_of bytes status)) → StatusMeets r (read_status bytes)
     unfolding status_told signature_in and_then
     meets_given status enough own here e = rw (read_signed enough own, here, e) (record { tells = refl; signature = refl })
 

@@ -4,8 +4,9 @@ ghost use Rattle.protocol_status.specs.Failure.{failure_number, failure_told, at
 ghost use Rattle.protocol_status.specs.StatusMeets.{status_error_told};
 
 use super::report::CommandStatusParseError;
+use rule_number::RuleNumber;
 
-#[derive(Clone, Copy)]
+#[derive(Clone, Copy, Debug, PartialEq, Eq)]
 pub enum UsbOperationError {
     TagMismatch,
     InvalidStatusSignature,
@@ -15,12 +16,11 @@ pub enum UsbOperationError {
     FailedStatus,
 }
 
-impl UsbOperationError {
-    // Its number in the rules.
+impl RuleNumber for UsbOperationError {
+    ghost rule_number = { failure_number };
+
     #[tactic(auto, unfolding(crate::specs::Failure::failure_number))]
-    pub fn number(self) -> u8
-        ensures { result ≡ failure_number self }
-    {
+    fn number(self) -> u8 {
         match self {
             UsbOperationError::TagMismatch => 10,
             UsbOperationError::InvalidStatusSignature => 11,
@@ -30,11 +30,13 @@ impl UsbOperationError {
             UsbOperationError::FailedStatus => 15,
         }
     }
+}
+
+impl From<CommandStatusParseError> for UsbOperationError {
+    ghost from_gives = { λ error failure. (signature : List ℕ) → failure_told failure signature ≡ at_finish (status_error_told error signature) };
 
     #[tactic(auto, unfolding(crate::specs::Failure::failure_number, crate::specs::Failure::failure_values, crate::specs::Failure::at_finish, crate::specs::StatusMeets::status_error_told))]
-    pub fn from_status(error: CommandStatusParseError) -> UsbOperationError
-        ensures { (signature : List ℕ) → failure_told result signature ≡ at_finish (status_error_told error signature) }
-    {
+    fn from(error: CommandStatusParseError) -> UsbOperationError {
         match error {
             CommandStatusParseError::InvalidSignature => UsbOperationError::InvalidStatusSignature,
             CommandStatusParseError::InvalidLength(_) => UsbOperationError::InvalidStatusLength,

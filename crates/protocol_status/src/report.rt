@@ -1,18 +1,15 @@
 // The status block: how the device says that a command went, in 13 bytes.
-ghost use Rattle.std.specs.Prelude.{◌≡◌, List, ℕ, ◌≤◌, length};
+ghost use Rattle.std.specs.Prelude.{◌≡◌, ◌≤◌, length};
 ghost use Rattle.protocol_status.specs.StatusBytes.{StatusFits, status_bytes, report_of, read_status, write_status};
-ghost use Rattle.protocol_status.specs.StatusMeets.{StatusMeets, status_error_told, status_told};
-ghost use Rattle.protocol_status.specs.Code.{parsed};
-ghost use Rattle.promise.specs.Told.{number};
+ghost use Rattle.protocol_status.specs.StatusMeets.{StatusMeets, status_error_number};
 ghost use Rattle.protocol_bytes.specs.Writing.{WriteMeets};
 
-use lent_bytes;
 use protocol_bytes::order::{
     u32_from_be_bytes, u32_from_le_bytes, u32_to_be_bytes, u32_to_le_bytes,
 };
-use protocol_bytes::output::Written;
-use protocol_bytes::signature::starts_with;
-use protocol_codes::{Status, StatusRead};
+use protocol_bytes::signature::{Parse, parsed, starts_with};
+use protocol_codes::{Status, UnknownStatus};
+use rule_number::{OutputTooShort, RuleNumber};
 
 // Total size of a status block.
 pub const COMMAND_STATUS_BYTES: usize = 13;
@@ -20,7 +17,7 @@ pub const COMMAND_STATUS_BYTES: usize = 13;
 // USBS
 const SIGNATURE: [u8; 4] = [0x55, 0x53, 0x42, 0x53];
 
-#[derive(Clone, Copy)]
+#[derive(Clone, Copy, Debug, PartialEq, Eq)]
 pub struct CommandStatus {
     pub tag: u32,
     pub residue: u32,
@@ -28,60 +25,22 @@ pub struct CommandStatus {
 }
 
 // Why bytes are no status block. The signature's bytes stand beside it.
-#[derive(Clone, Copy)]
+#[derive(Clone, Copy, Debug, PartialEq, Eq)]
 pub enum CommandStatusParseError {
     InvalidSignature,
     InvalidLength(usize),
     InvalidStatus(u8),
 }
 
-impl CommandStatusParseError {
-    // Its number in the rules.
-    #[tactic(auto, unfolding(promise::specs::Told::number, crate::specs::StatusMeets::status_error_told))]
-    pub fn number(self) -> u8
-        ensures { (signature : List ℕ) → result ≡ number (status_error_told self signature) }
-    {
+impl RuleNumber for CommandStatusParseError {
+    ghost rule_number = { status_error_number };
+
+    fn number(self) -> u8 {
         match self {
             CommandStatusParseError::InvalidLength(_) => 5,
             CommandStatusParseError::InvalidSignature => 6,
             CommandStatusParseError::InvalidStatus(_) => 7,
         }
-    }
-}
-
-#[derive(Clone, Copy)]
-pub enum StatusAnswer {
-    Block(CommandStatus),
-    Refused(CommandStatusParseError),
-}
-
-impl StatusAnswer {
-    // Its number in the rules, 0 where a status was read.
-    #[tactic(auto, unfolding(promise::specs::Told::number, crate::specs::StatusMeets::status_told))]
-    pub fn number(self) -> u8
-        ensures { (signature : List ℕ) → result ≡ number (status_told self signature) }
-    {
-        match self {
-            StatusAnswer::Block(_) => 0,
-            StatusAnswer::Refused(error) => error.number(),
-        }
-    }
-}
-
-#[derive(Clone, Copy)]
-pub struct StatusParse {
-    pub answer: StatusAnswer,
-    // the four bytes of an invalid signature, zeros otherwise
-    pub signature: [u8; 4],
-}
-
-// An answer that has no signature to tell.
-fn parsed(answer: StatusAnswer) -> StatusParse
-    ensures { result ≡ parsed answer }
-{
-    StatusParse {
-        answer: answer,
-        signature: [0, 0, 0, 0],
     }
 }
 
@@ -94,7 +53,7 @@ fn report_of(bytes: &[u8], status: Status) -> CommandStatus
     CommandStatus {
         tag: u32_from_be_bytes([bytes[4], bytes[5], bytes[6], bytes[7]]),
         residue: u32_from_le_bytes([bytes[8], bytes[9], bytes[10], bytes[11]]),
-        status: status,
+        status,
     }
 }
 
@@ -119,40 +78,38 @@ impl CommandStatus {
             residue[1],
             residue[2],
             residue[3],
-            status.number(),
+            u8::from(status),
         ]
     }
 
     #[tactic(auto, unfolding(crate::specs::StatusBytes::write_status, protocol_bytes::specs::Writing::writing, protocol_bytes::specs::Writing::written_told, promise::specs::Rules::or_refuse))]
-    pub fn to_bytes(self, out: &mut [u8]) -> Written
+    pub fn to_bytes(self, out: &mut [u8]) -> Result<usize, OutputTooShort>
         ensures write_meets { WriteMeets result out.old out.new (write_status self (length out.old)) }
         ensures status_fits { StatusFits self }
     {
         if out.len() < COMMAND_STATUS_BYTES {
-            return Written::TooShort;
+            return Err(OutputTooShort);
         }
         let block = self.bytes();
-        lent_bytes::copy(&block, out);
-        Written::Bytes(COMMAND_STATUS_BYTES)
+        out[..13].copy_from_slice(&block);
+        Ok(COMMAND_STATUS_BYTES)
     }
 
-    pub fn from_bytes(bytes: &[u8]) -> StatusParse
+    pub fn from_bytes(bytes: &[u8]) -> Parse<CommandStatus, CommandStatusParseError>
         ensures { StatusMeets result (read_status bytes.now) }
     {
         if bytes.len() < COMMAND_STATUS_BYTES {
-            return parsed(StatusAnswer::Refused(CommandStatusParseError::InvalidLength(
-                bytes.len(),
-            )));
+            return parsed(Err(CommandStatusParseError::InvalidLength(bytes.len())));
         }
         if !starts_with(bytes, SIGNATURE) {
-            return StatusParse {
-                answer: StatusAnswer::Refused(CommandStatusParseError::InvalidSignature),
+            return Parse {
+                answer: Err(CommandStatusParseError::InvalidSignature),
                 signature: [bytes[0], bytes[1], bytes[2], bytes[3]],
             };
         }
-        let StatusRead::Known(status) = Status::from_number(bytes[12]) else {
-            return parsed(StatusAnswer::Refused(CommandStatusParseError::InvalidStatus(bytes[12])));
+        let Ok(status) = Status::try_from(bytes[12]) else {
+            return parsed(Err(CommandStatusParseError::InvalidStatus(bytes[12])));
         };
-        parsed(StatusAnswer::Block(report_of(bytes, status)))
+        parsed(Ok(report_of(bytes, status)))
     }
 }

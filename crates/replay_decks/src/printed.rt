@@ -1,6 +1,6 @@
 // The answers: a block's line, or the bench's number and its device.
 use deck::bench::DeckStep;
-use deck::verdict::Verdict;
+use deck::verdict::{RefusalNumber};
 use mock::device::MockState;
 use operation_finish::{Beside, SectorTransfer, UsbReply};
 use replay_answers::out::hex;
@@ -37,11 +37,11 @@ fn reply<W: Write>(out: &mut W, reply: UsbReply, beside: Beside) -> Result<()> {
 pub(crate) fn block<W: Write>(out: &mut W, step: DeckStep) -> Result<()> {
     let block = step.bench.number;
     match step.verdict {
-        Verdict::Done(done) => {
+        Ok(done) => {
             write!(out, "{block} 0 ")?;
             reply(out, done, step.beside)
         }
-        Verdict::Refused(number) => write!(out, "{block} {number} -"),
+        Err(RefusalNumber(number)) => write!(out, "{block} {number} -"),
     }
 }
 

@@ -18,8 +18,6 @@ use Rattle.mock_base.specs.Told.{error_number, error_values, inner_signature, si
 use Rattle.mock_base.specs.Flash.{flash_rules, flash_sectors, size_told}
 use Rattle.mock_base.specs.declared.error.MockTransportError.{MockTransportError}
 use Rattle.mock_base.specs.declared.error.MockTransportError.TheVariants as error
-use Rattle.mock_base.specs.declared.range.FlashSectors.{FlashSectors}
-use Rattle.mock_base.specs.declared.range.FlashSectors.TheVariants as size
 use Rattle.operation_finish.specs.Reply.{Reply, blank}
 use Rattle.operation.specs.declared.steps.UsbOperation.{UsbOperation}
 use Rattle.operation.specs.Record.{transfer_length}
@@ -27,13 +25,15 @@ use Rattle.operation.specs.Step.{data_rule}
 use Rattle.mock.specs.declared.device.MockState.{MockState}
 use Rattle.mock.specs.Device.{store_rule}
 use Rattle.promise.specs.Run.{Ran, runs}
-use Rattle.run_turn.specs.declared.Stop.TheVariants as stop
+use Rattle.run_turn.specs.declared.StopError.TheVariants as stop
 use Rattle.run_turn.specs.Turn.{UsbState, usb_state, usb_turn}
 use Rattle.run_turn.specs.Answers.{stop_told, signature_told, beside_told}
 use Rattle.run_operation.specs.declared.UsbRun.{UsbRun}
 use Rattle.run_operation.specs.Run.{sector_data, run_rules, unstarted, usb_run}
 use Rattle.run_operation.specs.Answers.{answer_end, beside_end, RunMeets}
 use Rattle.run_operation.specs.Code.{unstarted_by}
+use Rattle.std.specs.Prelude.{Result}
+use Rattle.std.specs.declared.result.Result.TheVariants.{Ok, Err}
 
 inner_none : (e : CommandBlockParseError) → signature_told 56 (command_error_number e ∷ command_error_values e no_signature) ≡ no_signature
 unfolding signature_told signature_beside inner_signature signature_in command_error_number command_error_values
@@ -79,7 +79,7 @@ module _ (s : UsbState) (store budget : ℕ) where
       ∷ data_rule (length s.«data») (sector_data s.operation.kind (transfer_length s.operation))
       ∷ []
 
-  pub flash_refused : (e : MockTransportError) → size_told (size.Refused e) ≡ flash_sectors (length s.flash)
+  pub flash_refused : (e : MockTransportError) → size_told (Err e) ≡ flash_sectors (length s.flash)
       → usb_run s store budget ≡ unstarted s (error_number e) (error_values e no_signature)
   unfolding usb_run run_rules size_told flash_sectors
   flash_refused e h =
@@ -111,12 +111,12 @@ pub as_run : (r made : UsbRun) (flash bytes : List ℕ) (run comes : Ran Reply U
 as_run r made flash bytes run comes e f m =
     subst (λ (x : UsbRun). RunMeets x flash bytes run) (sym e) (subst (λ (w : Ran Reply UsbState). RunMeets made flash bytes w) (sym f) m)
 
-pub whole_size : (sectors : FlashSectors) (n k : ℕ) → size_told sectors ≡ flash_sectors n → sectors ≡ size.Whole k → flash_sectors n ≡ given k
+pub whole_size : (sectors : Result ℕ MockTransportError) (n k : ℕ) → size_told sectors ≡ flash_sectors n → sectors ≡ Ok k → flash_sectors n ≡ given k
 unfolding size_told
 whole_size sectors n k h e = sym h ∙ ap size_told e
 
-pub refused_size : (sectors : FlashSectors) (n : ℕ) (e : MockTransportError) → size_told sectors ≡ flash_sectors n → sectors ≡ size.Refused e
-    → size_told (size.Refused e) ≡ flash_sectors n
+pub refused_size : (sectors : Result ℕ MockTransportError) (n : ℕ) (e : MockTransportError) → size_told sectors ≡ flash_sectors n → sectors ≡ Err e
+    → size_told (Err e) ≡ flash_sectors n
 refused_size sectors n e h f = sym (ap size_told f) ∙ h
 
 pub length_picked : (b : Bool) (xs ys : List ℕ) → length (pick b xs ys) ≡ pick b (length xs) (length ys)

@@ -14,9 +14,7 @@ use Rattle.protocol.specs.Commands.{erase_lba_command, read_lba_command}
 use Rattle.mock_base.specs.Told.{error_values}
 use Rattle.mock_base.specs.Flash.{flash_rules, flash_sectors, size_told}
 use Rattle.mock_base.specs.declared.error.MockTransportError.TheVariants as error
-use Rattle.mock_base.specs.declared.range.FlashSectors.TheVariants as size
 use Rattle.operation_finish.specs.declared.Beside.{Beside}
-use Rattle.operation_finish.specs.declared.FinishAnswer.TheVariants.{Replied}
 use Rattle.operation_finish.specs.declared.Kind.TheVariants as kind
 use Rattle.operation_finish.specs.declared.UsbReply.TheVariants as usb
 use Rattle.operation_finish.specs.Reply.{Reply, nothing, finish_told}
@@ -28,16 +26,19 @@ use Rattle.operation.specs.Record.{fresh, with_status}
 use Rattle.mock.specs.declared.device.MockState.{MockState}
 use Rattle.promise.specs.Run.{End, tells, out_of_steps, end_told, Ran, ran, follow, runs}
 use Rattle.promise.proofs.Resumed.{never_more}
-use Rattle.run_turn.specs.declared.Stop.TheVariants as stop
+use Rattle.run_turn.specs.declared.StopError.TheVariants as stop
 use Rattle.run_turn.specs.Turn.{UsbState, usb_state, usb_turn}
 use Rattle.run_turn.specs.Answers.{stop_told}
 use Rattle.run_turn.proofs.Wrong.{at_finish, rearmed, told_at, turn_ends}
-use Rattle.run_operation.specs.declared.RunAnswer.{RunAnswer}
-use Rattle.run_operation.specs.declared.RunAnswer.TheVariants as answer
 use Rattle.run_operation.specs.declared.UsbRun.{UsbRun}
 use Rattle.run_operation.specs.Run.{sector_data, run_rules, unstarted, usb_run}
 use Rattle.run_operation.specs.Answers.{answer_end, RunMeets}
 use Rattle.run_operation.proofs.Checks.{flash_refused, store_refused, unrefused}
+use Rattle.std.specs.declared.result.Result.TheVariants.{Ok, Err}
+use Rattle.std.specs.Prelude.{Result}
+use Rattle.operation_finish.specs.declared.UsbReply.{UsbReply}
+use Rattle.run_operation.specs.declared.RunError.{RunError}
+use Rattle.run_operation.specs.declared.RunError.TheVariants as run_error
 
 -- an operation whose status, with its tag, is all that came, and a read of a sector
 abbrev erased : UsbOperation
@@ -62,24 +63,24 @@ a_step_too_many r flash bytes store budget s meets e =
 
 module _ (r : UsbRun) (device : MockState) (flash bytes : List ℕ) (store budget : ℕ) where
   -- the end that the wrong answer tells
-  told_by : (a : RunAnswer) (run : Ran Reply UsbState) (told : End Reply) → RunMeets r flash bytes run → r.answer ≡ a → run.end ≡ told
+  told_by : (a : Result UsbReply RunError) (run : Ran Reply UsbState) (told : End Reply) → RunMeets r flash bytes run → r.answer ≡ a → run.end ≡ told
       → answer_end a r.beside ≡ told
-  told_by a run told meets e f = ap (λ (x : RunAnswer). answer_end x r.beside) (sym e) ∙ meets.tells ∙ f
+  told_by a run told meets e f = ap (λ (x : Result UsbReply RunError). answer_end x r.beside) (sym e) ∙ meets.tells ∙ f
 
   -- 61 told of a flash that is no whole number of sectors and has too many: 60 comes first
   pub sectors_before_size : (op : UsbOperation) (lent lent-data : List ℕ) → length lent ≡ 33554945 → RunMeets r flash bytes (usb_run (usb_state op device lent lent-data) store budget)
-      → r.answer ≡ answer.Ended (stop.Device error.TooManySectors) → ⊥
+      → r.answer ≡ Err (run_error.Stopped (stop.Device error.TooManySectors)) → ⊥
   unfolding answer_end stop_told error_values size_told flash_sectors flash_rules or_refuse
   sectors_before_size op lent lent-data long meets e =
       let s = usb_state op device lent lent-data in
-      let told : size_told (size.Refused (error.FlashSize 33554945)) ≡ flash_sectors (length lent) = ap flash_sectors (sym long) in
+      let told : size_told (Err (error.FlashSize 33554945)) ≡ flash_sectors (length lent) = ap flash_sectors (sym long) in
       let run = flash_refused s store budget (error.FlashSize 33554945) told in
       let clash : ◌≡◌ {A = End Reply} (tells (refused 61 [])) (tells (refused 60 (33554945 ∷ []))) = told_by _ _ _ meets e (ap (λ (w : Ran Reply UsbState). w.end) run) in
       let z : ◌≡◌ {A = ℕ} 61 60 = cc in omega arith
 
   -- 27 told where the store is of another length, too: 65 comes first
   pub data_before_store : (store ≡ device.store_length → ⊥) → RunMeets r flash bytes (usb_run (usb_state of_sector device [] []) store budget)
-      → r.answer ≡ answer.Ended stop.DataDiffers → ⊥
+      → r.answer ≡ Err (run_error.Stopped stop.DataDiffers) → ⊥
   unfolding answer_end stop_told flash_sectors flash_rules or_refuse
   data_before_store other meets e =
       let run = store_refused (usb_state of_sector device [] []) store budget 0 refl other in
@@ -101,7 +102,7 @@ module _ (r : UsbRun) (device : MockState) (flash bytes : List ℕ) (store budge
         ∙ rw (turn_ends erased device [] [], erased_told)
 
     -- 28 told before the budget is used
-    pub out_of_steps_early : RunMeets r flash bytes (usb_run (usb_state (at_finish erased) device [] []) store (suc budget)) → r.answer ≡ answer.OutOfSteps → ⊥
+    pub out_of_steps_early : RunMeets r flash bytes (usb_run (usb_state (at_finish erased) device [] []) store (suc budget)) → r.answer ≡ (Err run_error.OutOfSteps) → ⊥
     unfolding answer_end
     out_of_steps_early meets e =
         let clash : ◌≡◌ {A = End Reply} out_of_steps (tells (given nothing)) = told_by _ _ _ meets e (ap (λ (w : Ran Reply UsbState). w.end) at_the_finish) in
@@ -119,11 +120,11 @@ module _ (r : UsbRun) (device : MockState) (flash bytes : List ℕ) (store budge
         let z : ◌≡◌ {A = ℕ} 0 1 = cc in omega arith
 
 -- 28 told as 0, as if the operation were there
-pub spent_is_done : (n : ℕ) (b : Beside) → n ≡ number (end_told (answer_end answer.OutOfSteps b)) → n ≡ 0 → ⊥
+pub spent_is_done : (n : ℕ) (b : Beside) → n ≡ number (end_told (answer_end (Err run_error.OutOfSteps) b)) → n ≡ 0 → ⊥
 unfolding number end_told answer_end
 spent_is_done n b e f = omega arith
 
 -- every end of a run told as 28
-pub ended_is_spent : (n : ℕ) (b : Beside) → n ≡ number (end_told (answer_end (answer.Ended (stop.Finished (Replied usb.Nothing))) b)) → n ≡ 28 → ⊥
+pub ended_is_spent : (n : ℕ) (b : Beside) → n ≡ number (end_told (answer_end (Ok usb.Nothing) b)) → n ≡ 28 → ⊥
 unfolding number end_told answer_end stop_told finish_told
 ended_is_spent n b e f = omega arith

@@ -2,42 +2,50 @@
 
 #![tactic(auto)]
 
-ghost use Rattle.std.specs.Prelude.{◌≡◌, List, [], ℕ, length};
-ghost use Rattle.promise.specs.Told.{number};
+ghost use Rattle.std.specs.Prelude.{◌≡◌, List, [], length};
 ghost use Rattle.promise.specs.Rules.{pick};
-ghost use Rattle.operation_finish.specs.declared.Beside.{Beside};
-ghost use Rattle.promise.specs.Run.{end_told, runs};
+ghost use Rattle.promise.specs.Run.{runs};
 ghost use Rattle.run_turn.specs.Turn.{usb_state, is_write, lent_to, usb_turn};
+ghost use Rattle.run_operation.specs.declared.RunError.TheVariants.{Stopped};
 ghost use Rattle.run_operation.specs.Run.{sector_data, whole_budget, usb_run};
-ghost use Rattle.run_operation.specs.Answers.{answer_end, RunMeets};
-ghost use Rattle.run_operation.specs.Code.{unstarted_by};
+ghost use Rattle.run_operation.specs.Answers.{run_error_number, RunMeets};
+ghost use Rattle.run_operation.specs.Code.{run_ended, unstarted_by};
 
 use mock::device::MockState;
 use mock_base::error::MockTransportError;
-use mock_base::range::{FlashSectors, flash_sectors};
+use mock_base::range::flash_sectors;
 use operation::steps::UsbOperation;
-use operation_finish::{Beside, Kind};
-use run_turn::{Stop, Turn, is_write, take_turn};
+use operation_finish::{Beside, Kind, UsbReply};
+use rule_number::RuleNumber;
+use run_turn::{StopError, is_write, take_turn};
+use std::ops::ControlFlow;
 
 // Command, data, status and finish.
 const WHOLE_BUDGET: u32 = 4;
 
-#[derive(Clone, Copy)]
-pub enum RunAnswer {
-    Ended(Stop),
+// Why a run gives no value.
+#[derive(Clone, Copy, Debug, PartialEq, Eq)]
+pub enum RunError {
+    Stopped(StopError),
     // 28
     OutOfSteps,
 }
 
-impl RunAnswer {
-    // Its number in the rules, 0 for the operation's value.
-    #[tactic(auto, unfolding(promise::specs::Told::number, promise::specs::Run::end_told, crate::specs::Answers::answer_end))]
-    pub fn number(self) -> u8
-        ensures { (b : Beside) → result ≡ number (end_told (answer_end self b)) }
-    {
+impl From<StopError> for RunError {
+    ghost from_gives = { λ stop error. error ≡ Stopped stop };
+
+    fn from(stop: StopError) -> RunError {
+        RunError::Stopped(stop)
+    }
+}
+
+impl RuleNumber for RunError {
+    ghost rule_number = { run_error_number };
+
+    fn number(self) -> u8 {
         match self {
-            RunAnswer::Ended(stop) => stop.number(),
-            RunAnswer::OutOfSteps => 28,
+            RunError::Stopped(stop) => stop.number(),
+            RunError::OutOfSteps => 28,
         }
     }
 }
@@ -46,7 +54,7 @@ impl RunAnswer {
 // counts the run's own step calls.
 #[derive(Clone, Copy)]
 pub struct UsbRun {
-    pub answer: RunAnswer,
+    pub answer: Result<UsbReply, RunError>,
     pub beside: Beside,
     pub operation: UsbOperation,
     pub device: MockState,
@@ -58,33 +66,31 @@ fn sector_data(kind: Kind, size: usize) -> usize
     ensures { result ≡ sector_data kind size }
 {
     match kind {
-        Kind::ChipInfo => 0,
-        Kind::FlashId => 0,
-        Kind::FlashInfo => 0,
-        Kind::Capability => 0,
-        Kind::Nothing => 0,
-        Kind::Storage => 0,
-        Kind::Read => size,
-        Kind::Write => size,
+        Kind::Read | Kind::Write => size,
+        _ => 0,
     }
 }
 
 fn lent_length(kind: Kind, source: usize, room: usize) -> usize
     ensures { result ≡ pick (is_write kind) source room }
 {
-    if is_write(kind) {
-        return source;
-    }
-    room
+    if is_write(kind) { source } else { room }
+}
+
+// How a run ends that stops before its budget is used.
+fn ended(stop: Result<UsbReply, StopError>) -> Result<UsbReply, RunError>
+    ensures { result ≡ run_ended stop }
+{
+    Ok(stop?)
 }
 
 // A run that is refused before its first step.
-fn unstarted(stop: Stop, operation: UsbOperation, device: MockState) -> UsbRun
+fn unstarted(stop: StopError, operation: UsbOperation, device: MockState) -> UsbRun
     ensures { result ≡ unstarted_by stop operation device }
 {
     let beside = Beside::blank([0, 0, 0, 0]);
     UsbRun {
-        answer: RunAnswer::Ended(stop),
+        answer: Err(RunError::Stopped(stop)),
         beside,
         operation,
         device,
@@ -109,18 +115,16 @@ fn run_on(
     let mut steps: u32 = 0;
     let answer = loop {
         if steps == budget {
-            break RunAnswer::OutOfSteps;
+            break Err(RunError::OutOfSteps);
         }
         steps += 1;
         let turned = take_turn(now_operation, now_device, flash, source, room);
         now_operation = turned.operation;
         now_device = turned.device;
         beside = turned.beside;
-        let turn = turned.turn;
-        let Turn::Ends(stop) = turn else {
-            continue;
-        };
-        break RunAnswer::Ended(stop);
+        if let ControlFlow::Break(stop) = turned.turn {
+            break ended(stop);
+        }
     };
     UsbRun {
         answer,
@@ -143,13 +147,12 @@ fn run_over(
 ) -> UsbRun
     ensures { RunMeets result flash.new (lent_to operation.kind source.now room.new) (usb_run (usb_state operation device flash.old (lent_to operation.kind source.now room.old)) store budget) }
 {
-    let sectors = flash_sectors(flash.len());
-    if let FlashSectors::Refused(error) = sectors {
-        return unstarted(Stop::Device(error), operation, device);
+    if let Err(error) = flash_sectors(flash.len()) {
+        return unstarted(StopError::Device(error), operation, device);
     }
     if store != device.store_length {
         return unstarted(
-            Stop::Device(MockTransportError::StoreLength),
+            StopError::Device(MockTransportError::StoreLength),
             operation,
             device,
         );
@@ -157,7 +160,7 @@ fn run_over(
     let kind = operation.kind;
     let size = operation.command.transfer_length as usize;
     if lent_length(kind, source.len(), room.len()) < sector_data(kind, size) {
-        return unstarted(Stop::DataDiffers, operation, device);
+        return unstarted(StopError::DataDiffers, operation, device);
     }
     run_on(operation, device, flash, source, room, budget)
 }

@@ -6,42 +6,43 @@ use native.Mathlib.Omega.{arith}
 use lib.Dec.{ltb}
 use lib.ListN.{length, take, drop, replicate, length-replicate, replicate-append-replicate}
 use lib.Seq.{length-take-le, take_at}
-use Rattle.promise.specs.Told.{Told, given, refused, and_then}
+use Rattle.promise.specs.Told.{Told, given, refused}
 use Rattle.promise.specs.Rules.{rule}
 use Rattle.promise.specs.Bytes.{front}
 use Rattle.promise.proofs.Outcome.{either_way}
 use Rattle.protocol_bytes.specs.Signature.{signature_in}
-use Rattle.protocol_status.specs.Failure.{failure_number, failure_values}
+use Rattle.protocol_status.specs.Failure.{failure_number, failure_values, failure_told}
 use Rattle.protocol_status.specs.declared.failure.UsbOperationError.TheVariants as failure
 use Rattle.mock_base.specs.Told.{error_number, error_values, error_told, result_told, inner_signature, signature_beside, Answers}
 use Rattle.mock_base.specs.declared.error.MockTransportError.{MockTransportError}
 use Rattle.mock_base.specs.declared.error.MockTransportError.TheVariants as error
-use Rattle.mock_base.specs.declared.error.MockResult.{MockResult}
-use Rattle.mock_base.specs.declared.error.MockResult.TheVariants.{Done, Refused}
 use Rattle.mock_base.specs.declared.error.MockAnswer.{MockAnswer}
-use Rattle.operation_finish.specs.Reply.{Reply, blank, beside_of, finish_told}
-use Rattle.operation_finish.specs.declared.Beside.{Beside}
-use Rattle.operation_finish.specs.declared.FinishAnswer.{FinishAnswer}
-use Rattle.operation_finish.specs.declared.FinishAnswer.TheVariants.{Replied, Failed}
+use Rattle.operation_finish.specs.Reply.{Reply, blank, beside_of}
 use Rattle.operation.specs.declared.steps.Asked.{Asked}
 use Rattle.operation.specs.declared.steps.Asked.TheVariants as asked
 use Rattle.operation.specs.declared.steps.UsbOperation.{UsbOperation}
-use Rattle.operation.specs.declared.steps.UsbStep.{UsbStep}
 use Rattle.operation.specs.declared.steps.UsbStep.TheVariants as step
 use Rattle.operation.specs.declared.steps.UsbStepped.{UsbStepped}
-use Rattle.operation.specs.Step.{Asks, finished_told, usb_step, step_told, beside_asks, beside_at, StepMeets}
+use Rattle.operation.specs.Step.{Asks, usb_step, step_told, beside_asks, beside_at, StepMeets}
 use Rattle.operation.specs.Give.{Give, keeps, nothing_asked, asks_for, owed, give_of}
 use Rattle.operation.specs.Give as give
 use Rattle.mock.specs.declared.device.MockState.{MockState}
 use Rattle.mock.specs.Device.{Call, write_bulk, read_bulk}
 use Rattle.promise.specs.Run.{Turned, ends, goes}
-use Rattle.run_turn.specs.declared.Stop.{Stop}
-use Rattle.run_turn.specs.declared.Stop.TheVariants as stop
+use Rattle.run_turn.specs.declared.StopError.TheVariants as stop
 use Rattle.run_turn.specs.declared.UsbTurned.{UsbTurned}
 use Rattle.run_turn.specs.Turn.{UsbState, usb_state, onward, wrote, landed, gives, received, got, buffer_for, transfers, usb_turn}
 use Rattle.run_turn.specs.Answers.{stop_told, signature_told, beside_told, turn_told, beside_turned, TurnMeets}
-use Rattle.run_turn.specs.Code.{turn_after, where_done, turned_by, ended_by}
+use Rattle.run_turn.specs.Code.{stop_of, turn_after, where_done, turned_by, ended_by}
 use Rattle.run_turn.proofs.Fine.{Fine, fine}
+use Rattle.std.specs.Prelude.{Result}
+use Rattle.std.specs.declared.result.Result.TheVariants.{Ok, Err}
+use Rattle.operation_finish.specs.declared.UsbReply.{UsbReply}
+use Rattle.protocol_status.specs.declared.failure.UsbOperationError.{UsbOperationError}
+use Rattle.operation.specs.declared.steps.UsbStep.{UsbStep}
+use Rattle.operation.specs.declared.steps.StepError.{StepError}
+use Rattle.operation.specs.declared.steps.StepError.TheVariants as step_error
+use Rattle.run_turn.specs.declared.StopError.{StopError}
 
 -- the device's answer
 
@@ -64,15 +65,15 @@ error_signature error.UnalignedErase g = refl
 error_signature error.StoreLength g = refl
 
 -- the device's answer is told, with the signature that it has beside it, and nothing else changes
-pub after_answer : (x : MockResult) (g : List ℕ) (told : Told Unit) (op : UsbOperation) (device : MockState) (flash bytes : List ℕ)
+pub after_answer : (x : Result Unit MockTransportError) (g : List ℕ) (told : Told Unit) (op : UsbOperation) (device : MockState) (flash bytes : List ℕ)
     → result_told x g ≡ told → g ≡ signature_beside told
     → TurnMeets (turned_by (turn_after x) (blank g) op device) flash bytes (onward told (usb_state op device flash bytes))
 unfolding result_told turn_after onward turn_told stop_told beside_turned beside_told signature_beside
-after_answer Done g told op device flash bytes e s =
-    subst (λ (t : Told Unit). TurnMeets (turned_by (turn_after Done) (blank g) op device) flash bytes (onward t (usb_state op device flash bytes))) e
+after_answer (Ok u) g told op device flash bytes e s =
+    subst (λ (t : Told Unit). TurnMeets (turned_by (turn_after (Ok tt)) (blank g) op device) flash bytes (onward t (usb_state op device flash bytes))) e
     (record { tells = refl; beside = ap blank (s ∙ ap signature_beside (sym e)) })
-after_answer (Refused error) g told op device flash bytes e s =
-    subst (λ (t : Told Unit). TurnMeets (turned_by (turn_after (Refused error)) (blank g) op device) flash bytes (onward t (usb_state op device flash bytes))) e
+after_answer (Err error) g told op device flash bytes e s =
+    subst (λ (t : Told Unit). TurnMeets (turned_by (turn_after (Err error)) (blank g) op device) flash bytes (onward t (usb_state op device flash bytes))) e
     (record { tells = refl; beside = ap blank (s ∙ ap signature_beside (sym e) ∙ sym (error_signature error g)) })
 
 -- a transfer, from what its call left
@@ -85,15 +86,15 @@ written r op w state flash bytes e f m =
     (subst (λ (l : List ℕ). TurnMeets r flash bytes (onward w.told (usb_state op state l bytes))) f m)
 
 -- what is read is given where the device did it, and a refused read is the end
-as_received : (x : MockResult) (g : List ℕ) (told : Told Unit) (what : Asked) (op : UsbOperation) (device : MockState) (flash bytes l : List ℕ) → result_told x g ≡ told
+as_received : (x : Result Unit MockTransportError) (g : List ℕ) (told : Told Unit) (what : Asked) (op : UsbOperation) (device : MockState) (flash bytes l : List ℕ) → result_told x g ≡ told
     → gives what (usb_state op device flash bytes) l ≡ usb_state (gives what (usb_state op device flash bytes) l).operation device flash bytes
     → onward told (usb_state (where_done x (gives what (usb_state op device flash bytes) l).operation op) device flash bytes) ≡ received told what (usb_state op device flash bytes) l
 unfolding result_told onward received
-as_received Done g told what op device flash bytes l e same =
+as_received (Ok u) g told what op device flash bytes l e same =
     subst
     (λ (t : Told Unit). onward t (usb_state (gives what (usb_state op device flash bytes) l).operation device flash bytes) ≡ received t what (usb_state op device flash bytes) l) e
     (ap goes (sym same))
-as_received (Refused error) g told what op device flash bytes l e same =
+as_received (Err error) g told what op device flash bytes l e same =
     subst (λ (t : Told Unit). onward t (usb_state op device flash bytes) ≡ received t what (usb_state op device flash bytes) l) e refl
 
 pub read_meets : (r : UsbTurned) (a : MockAnswer) (what : Asked) (op next : UsbOperation) (state : MockState) (flash bytes : List ℕ) (g : Call)
@@ -125,21 +126,15 @@ empty_put what op lent =
 
 -- what the step asked for
 
--- what stands beside a finish, as the run says it
-pub beside_finish : (finish : FinishAnswer) (b : Beside) → beside_at (finished_told (finish_told finish b)) ≡ beside_told (finish_told finish b)
-unfolding beside_at beside_asks finished_told and_then beside_told beside_of finish_told failure_number failure_values signature_told signature_beside inner_signature signature_in
-beside_finish (Replied reply) b = refl
-beside_finish (Failed failure.TagMismatch) b = refl
-beside_finish (Failed failure.InvalidStatusSignature) b = refl
-beside_finish (Failed (failure.InvalidStatusStatus byte)) b = refl
-beside_finish (Failed failure.InvalidStatusLength) b = refl
-beside_finish (Failed failure.ReplyParseFailure) b = refl
-beside_finish (Failed failure.FailedStatus) b = refl
-
-finished_ends : (t : Told Reply) (sent : List ℕ) (s : UsbState) → transfers (finished_told t) sent s ≡ ends t s
-unfolding transfers finished_told and_then
-finished_ends (given reply) sent s = refl
-finished_ends (refused number values) sent s = refl
+-- what stands beside a refusal at the finish, as the run says it
+beside_failure : (error : UsbOperationError) (g : List ℕ) → beside_of (failure_told error g) ≡ beside_told (failure_told error g)
+unfolding beside_told beside_of failure_number failure_values signature_told signature_beside inner_signature signature_in
+beside_failure failure.TagMismatch g = refl
+beside_failure failure.InvalidStatusSignature g = refl
+beside_failure (failure.InvalidStatusStatus byte) g = refl
+beside_failure failure.InvalidStatusLength g = refl
+beside_failure failure.ReplyParseFailure g = refl
+beside_failure failure.FailedStatus g = refl
 
 -- a reply and a status are read alike
 pub as_status : (told : Told Unit) (s : UsbState) (bytes : List ℕ) → received told asked.Status s bytes ≡ received told asked.Inband s bytes
@@ -148,17 +143,17 @@ as_status (given done) s bytes = refl
 as_status (refused number values) s bytes = refl
 
 module _ (s : UsbState) (stepped : UsbStepped) (out : List ℕ) (m : StepMeets stepped (replicate 31 0) out (usb_step s.operation (length s.«data») 31)) where
-  asked_for : (x : UsbStep) → stepped.step ≡ x → (usb_step s.operation (length s.«data») 31).told ≡ step_told x stepped.beside
-  asked_for x e = sym m.tells ∙ ap (λ (y : UsbStep). step_told y stepped.beside) e
+  asked_for : (x : Result UsbStep StepError) → stepped.step ≡ x → (usb_step s.operation (length s.«data») 31).told ≡ step_told x stepped.beside
+  asked_for x e = sym m.tells ∙ ap (λ (y : Result UsbStep StepError). step_told y stepped.beside) e
 
   -- what it asked for is within what was lent
-  pub within : (x : UsbStep) → stepped.step ≡ x
+  pub within : (x : Result UsbStep StepError) → stepped.step ≡ x
       → Fine s.operation.kind (length s.«data») (step_told x stepped.beside) (usb_step s.operation (length s.«data») 31).sent
   within x e =
       subst (λ (t : Told Asks). Fine s.operation.kind (length s.«data») t (usb_step s.operation (length s.«data») 31).sent) (asked_for x e)
       (fine s.operation (length s.«data»))
 
-  pub turned_by_lem : (x : UsbStep) → stepped.step ≡ x
+  pub turned_by_lem : (x : Result UsbStep StepError) → stepped.step ≡ x
       → usb_turn s ≡ transfers (step_told x stepped.beside) (usb_step s.operation (length s.«data») 31).sent (usb_state stepped.next s.device s.flash s.«data»)
   unfolding usb_turn
   turned_by_lem x e =
@@ -168,56 +163,56 @@ module _ (s : UsbState) (stepped : UsbStepped) (out : List ℕ) (m : StepMeets s
       (asked_for x e) (sym m.next)
 
   -- the command is the whole output
-  pub command_out_lem : stepped.step ≡ step.WriteCommand → out ≡ (usb_step s.operation (length s.«data») 31).sent
+  pub command_out_lem : stepped.step ≡ (Ok step.WriteCommand) → out ≡ (usb_step s.operation (length s.«data») 31).sent
   unfolding step_told
   command_out_lem e =
-      let long : length (usb_step s.operation (length s.«data») 31).sent ≡ 31 = within step.WriteCommand e in
+      let long : length (usb_step s.operation (length s.«data») 31).sent ≡ 31 = within (Ok step.WriteCommand) e in
       m.leaves ∙ ap (λ (k : ℕ). (usb_step s.operation (length s.«data») 31).sent ++ drop k (replicate 31 0)) long
       ∙ append-nil (usb_step s.operation (length s.«data») 31).sent
 
   module _ (r : UsbTurned) (flash bytes : List ℕ) where
-    pub command_meets : stepped.step ≡ step.WriteCommand
+    pub command_meets : stepped.step ≡ (Ok step.WriteCommand)
         → TurnMeets r flash bytes (wrote (usb_state stepped.next s.device s.flash s.«data») (write_bulk s.device s.flash out))
         → TurnMeets r flash bytes (usb_turn s)
     unfolding step_told transfers
     command_meets e t =
         subst (λ (u : Turned Reply UsbState). TurnMeets r flash bytes u)
         (ap (λ (l : List ℕ). wrote (usb_state stepped.next s.device s.flash s.«data») (write_bulk s.device s.flash l)) (command_out_lem e)
-        ∙ sym (turned_by_lem step.WriteCommand e)) t
+        ∙ sym (turned_by_lem (Ok step.WriteCommand) e)) t
 
-    pub data_meets : (n : ℕ) → stepped.step ≡ step.WriteData n
+    pub data_meets : (n : ℕ) → stepped.step ≡ Ok (step.WriteData n)
         → TurnMeets r flash bytes (wrote (usb_state stepped.next s.device s.flash s.«data») (write_bulk s.device s.flash (take n s.«data»)))
         → TurnMeets r flash bytes (usb_turn s)
     unfolding step_told transfers
-    data_meets n e t = subst (λ (u : Turned Reply UsbState). TurnMeets r flash bytes u) (sym (turned_by_lem (step.WriteData n) e)) t
+    data_meets n e t = subst (λ (u : Turned Reply UsbState). TurnMeets r flash bytes u) (sym (turned_by_lem (Ok (step.WriteData n)) e)) t
 
-    pub inband_meets : (n : ℕ) → stepped.step ≡ step.ReadInband n
+    pub inband_meets : (n : ℕ) → stepped.step ≡ Ok (step.ReadInband n)
         → TurnMeets r flash bytes (got asked.Status (usb_state stepped.next s.device s.flash s.«data») (read_bulk s.device s.flash (replicate n 0)))
         → TurnMeets r flash bytes (usb_turn s)
     unfolding step_told transfers buffer_for landed
     inband_meets n e t =
         let g = read_bulk s.device s.flash (replicate n 0) in
         subst (λ (u : Turned Reply UsbState). TurnMeets r flash bytes u)
-        (as_status g.told (usb_state stepped.next g.next s.flash s.«data») g.leaves ∙ sym (turned_by_lem (step.ReadInband n) e)) t
+        (as_status g.told (usb_state stepped.next g.next s.flash s.«data») g.leaves ∙ sym (turned_by_lem (Ok (step.ReadInband n)) e)) t
 
-    pub sectors_meets : (n : ℕ) → stepped.step ≡ step.ReadData n
+    pub sectors_meets : (n : ℕ) → stepped.step ≡ Ok (step.ReadData n)
         → TurnMeets r flash bytes (got asked.Sectors (usb_state stepped.next s.device s.flash s.«data») (read_bulk s.device s.flash (take n s.«data»)))
         → TurnMeets r flash bytes (usb_turn s)
     unfolding step_told transfers buffer_for
-    sectors_meets n e t = subst (λ (u : Turned Reply UsbState). TurnMeets r flash bytes u) (sym (turned_by_lem (step.ReadData n) e)) t
+    sectors_meets n e t = subst (λ (u : Turned Reply UsbState). TurnMeets r flash bytes u) (sym (turned_by_lem (Ok (step.ReadData n)) e)) t
 
-    pub status_meets : (n : ℕ) → stepped.step ≡ step.ReadStatus n
+    pub status_meets : (n : ℕ) → stepped.step ≡ Ok (step.ReadStatus n)
         → TurnMeets r flash bytes (got asked.Status (usb_state stepped.next s.device s.flash s.«data») (read_bulk s.device s.flash (replicate 13 0)))
         → TurnMeets r flash bytes (usb_turn s)
     unfolding step_told transfers buffer_for
     status_meets n e t =
-        let thirteen : n ≡ 13 = within (step.ReadStatus n) e in
+        let thirteen : n ≡ 13 = within (Ok (step.ReadStatus n)) e in
         subst (λ (u : Turned Reply UsbState). TurnMeets r flash bytes u)
         (ap (λ (k : ℕ). got asked.Status (usb_state stepped.next s.device s.flash s.«data») (read_bulk s.device s.flash (replicate k 0))) (sym thirteen)
-        ∙ sym (turned_by_lem (step.ReadStatus n) e)) t
+        ∙ sym (turned_by_lem (Ok (step.ReadStatus n)) e)) t
 
   -- the end, with what stands beside it
-  ends_meets : (x : UsbStep) (stop : Stop) → stepped.step ≡ x
+  ends_meets : (x : Result UsbStep StepError) (stop : Result UsbReply StopError) → stepped.step ≡ x
       → transfers (step_told x stepped.beside) (usb_step s.operation (length s.«data») 31).sent (usb_state stepped.next s.device s.flash s.«data»)
       ≡ ends (stop_told stop stepped.beside) (usb_state stepped.next s.device s.flash s.«data»)
       → beside_at (step_told x stepped.beside) ≡ beside_told (stop_told stop stepped.beside)
@@ -228,23 +223,18 @@ module _ (s : UsbState) (stepped : UsbStepped) (out : List ℕ) (m : StepMeets s
       (sym (turned_by_lem x e ∙ f))
       (record { tells = refl; beside = m.beside ∙ ap beside_at (asked_for x e) ∙ b })
 
-  pub finish_meets : (finish : FinishAnswer) → stepped.step ≡ step.Finished finish
-      → TurnMeets (ended_by (stop.Finished finish) stepped.beside stepped.next s.device) s.flash s.«data» (usb_turn s)
-  unfolding step_told stop_told
-  finish_meets finish e =
-      ends_meets (step.Finished finish) (stop.Finished finish) e
-      (finished_ends (finish_told finish stepped.beside) (usb_step s.operation (length s.«data») 31).sent (usb_state stepped.next s.device s.flash s.«data»))
-      (beside_finish finish stepped.beside)
+  pub finish_meets : (reply : UsbReply) → stepped.step ≡ Ok (step.Finished reply)
+      → TurnMeets (ended_by (Ok reply) stepped.beside stepped.next s.device) s.flash s.«data» (usb_turn s)
+  unfolding step_told stop_told transfers beside_at beside_asks beside_of beside_told
+  finish_meets reply e = ends_meets (Ok (step.Finished reply)) (Ok reply) e refl refl
 
-  pub short_meets : stepped.step ≡ step.OutputTooShort
-      → TurnMeets (ended_by stop.OutputTooShort stepped.beside stepped.next s.device) s.flash s.«data» (usb_turn s)
+  pub refusal_meets : (error : StepError) → stepped.step ≡ Err error
+      → TurnMeets (ended_by (Err (stop_of error)) stepped.beside stepped.next s.device) s.flash s.«data» (usb_turn s)
   unfolding step_told stop_told transfers beside_at beside_of beside_told signature_told signature_beside inner_signature signature_in
-  short_meets e = ends_meets step.OutputTooShort stop.OutputTooShort e refl refl
-
-  pub differs_meets : stepped.step ≡ step.DataDiffers
-      → TurnMeets (ended_by stop.DataDiffers stepped.beside stepped.next s.device) s.flash s.«data» (usb_turn s)
-  unfolding step_told stop_told transfers beside_at beside_of beside_told signature_told signature_beside inner_signature signature_in
-  differs_meets e = ends_meets step.DataDiffers stop.DataDiffers e refl refl
+  refusal_meets (step_error.Failed error) e =
+      ends_meets (Err (step_error.Failed error)) (Err (stop.Failed error)) e refl (beside_failure error stepped.beside.signature)
+  refusal_meets step_error.OutputTooShort e = ends_meets (Err step_error.OutputTooShort) (Err stop.OutputTooShort) e refl refl
+  refusal_meets step_error.DataDiffers e = ends_meets (Err step_error.DataDiffers) (Err stop.DataDiffers) e refl refl
 
 -- a part that was lent and comes back `last` stands at the front of the whole
 pub lent_front : (size : ℕ) (room last buffer : List ℕ) → size ≤ length room → length last ≡ length (take size room) → last ≡ buffer

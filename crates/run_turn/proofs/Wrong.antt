@@ -11,7 +11,6 @@ use Rattle.protocol.specs.Commands.{read_lba_command}
 use Rattle.protocol.specs.declared.CommandBlock.{CommandBlock}
 use Rattle.mock_base.specs.declared.error.MockTransportError.TheVariants as error
 use Rattle.operation_finish.specs.declared.Beside.{Beside}
-use Rattle.operation_finish.specs.declared.FinishAnswer.TheVariants.{Replied}
 use Rattle.operation_finish.specs.declared.Kind.TheVariants as kind
 use Rattle.operation_finish.specs.declared.UsbReply.{UsbReply}
 use Rattle.operation_finish.specs.Reply.{Reply, finish_told}
@@ -23,13 +22,16 @@ use Rattle.operation.specs.Record.{fresh, transfer_length, turned}
 use Rattle.operation.specs.Step.{finished_told, step_of, finish_step, io_step}
 use Rattle.mock.specs.declared.device.MockState.{MockState}
 use Rattle.promise.specs.Run.{ends}
-use Rattle.run_turn.specs.declared.Stop.TheVariants as stop
-use Rattle.run_turn.specs.declared.Turn.{Turn}
-use Rattle.run_turn.specs.declared.Turn.TheVariants as turn
+use Rattle.run_turn.specs.declared.StopError.TheVariants as stop
 use Rattle.run_turn.specs.declared.UsbTurned.{UsbTurned}
 use Rattle.run_turn.specs.Turn.{UsbState, usb_state, transfers, is_write, usb_turn}
 use Rattle.run_turn.specs.Answers.{stop_told, turn_told, TurnMeets, LentMeets}
 use Rattle.run_turn.proofs.Unique.{state_in, state_in_lem}
+use Rattle.std.specs.declared.result.Result.TheVariants.{Ok, Err}
+use Rattle.std.specs.Prelude.{Result}
+use Rattle.run_turn.specs.declared.StopError.{StopError}
+use Rattle.std.specs.declared.ops.ControlFlow.{ControlFlow}
+use Rattle.std.specs.declared.ops.ControlFlow.TheVariants.{Continue, Break}
 
 -- whatever a finish tells, the turn ends with it
 finish_ends : (t : Told Reply) (sent : List ℕ) (s : UsbState) → transfers (finished_told t) sent s ≡ ends t s
@@ -61,12 +63,12 @@ module _ (op : UsbOperation) (device : MockState) (flash bytes : List ℕ) where
 
   module _ (r : UsbTurned) (flash-now bytes-now : List ℕ) where
     -- a turn that goes on for ever
-    pub never_ending : TurnMeets r flash-now bytes-now (usb_turn (usb_state (at_finish op) device flash bytes)) → r.turn ≡ turn.Goes → ⊥
+    pub never_ending : TurnMeets r flash-now bytes-now (usb_turn (usb_state (at_finish op) device flash bytes)) → r.turn ≡ (Continue tt) → ⊥
     unfolding turn_told
     never_ending meets e =
         let s = usb_state r.operation r.device flash-now bytes-now in
-        let clash : turn_told turn.Goes r.beside s ≡ ends (told_at op) (usb_state (rearmed op) device flash bytes) =
-        ap (λ (t : Turn). turn_told t r.beside s) (sym e) ∙ meets.tells ∙ turn_ends in
+        let clash : turn_told (Continue tt) r.beside s ≡ ends (told_at op) (usb_state (rearmed op) device flash bytes) =
+        ap (λ (t : ControlFlow (Result UsbReply StopError) Unit). turn_told t r.beside s) (sym e) ∙ meets.tells ∙ turn_ends in
         let z : ◌≡◌ {A = ℕ} 0 1 = cc in omega arith
 
     -- an operation that stays where it stood
@@ -78,12 +80,12 @@ module _ (op : UsbOperation) (device : MockState) (flash bytes : List ℕ) where
         let z : ◌≡◌ {A = ℕ} 0 1 = cc in omega arith
 
     -- a turn that calls 27 a 20
-    pub one_refusal_for_another : TurnMeets r flash-now bytes-now (usb_turn (usb_state of_sector device flash [])) → r.turn ≡ turn.Ends stop.OutputTooShort → ⊥
+    pub one_refusal_for_another : TurnMeets r flash-now bytes-now (usb_turn (usb_state of_sector device flash [])) → r.turn ≡ Break (Err stop.OutputTooShort) → ⊥
     unfolding turn_told stop_told
     one_refusal_for_another meets e =
         let s = usb_state r.operation r.device flash-now bytes-now in
-        let clash : turn_told (turn.Ends stop.OutputTooShort) r.beside s ≡ ends (refused 27 []) (usb_state of_sector device flash []) =
-        ap (λ (t : Turn). turn_told t r.beside s) (sym e) ∙ meets.tells ∙ turn_differs in
+        let clash : turn_told (Break (Err stop.OutputTooShort)) r.beside s ≡ ends (refused 27 []) (usb_state of_sector device flash []) =
+        ap (λ (t : ControlFlow (Result UsbReply StopError) Unit). turn_told t r.beside s) (sym e) ∙ meets.tells ∙ turn_differs in
         let z : ◌≡◌ {A = ℕ} 20 27 = cc in omega arith
 
 -- a turn that writes over what a write is lent to read into, whatever it does elsewhere
@@ -104,11 +106,11 @@ unfolding is_write
 never_writing r e f = let same : true ≡ false = sym e ∙ f in let z : ◌≡◌ {A = ℕ} 0 1 = cc in omega arith
 
 -- one number for every stop
-pub one_number_for_all : (n : ℕ) (b : Beside) → n ≡ number (stop_told stop.OutputTooShort b) → n ≡ number (stop_told (stop.Device error.StoreLength) b) → ⊥
+pub one_number_for_all : (n : ℕ) (b : Beside) → n ≡ number (stop_told (Err stop.OutputTooShort) b) → n ≡ number (stop_told (Err (stop.Device error.StoreLength)) b) → ⊥
 unfolding number stop_told
 one_number_for_all n b e f = omega arith
 
 -- the operation's value told as a refusal
-pub value_a_refusal : (n : ℕ) (reply : UsbReply) (b : Beside) → n ≡ number (stop_told (stop.Finished (Replied reply)) b) → 1 ≤ n → ⊥
+pub value_a_refusal : (n : ℕ) (reply : UsbReply) (b : Beside) → n ≡ number (stop_told (Ok reply) b) → 1 ≤ n → ⊥
 unfolding number stop_told finish_told
 value_a_refusal n reply b e f = omega arith

@@ -3,27 +3,29 @@
 #![tactic(auto)]
 
 ghost use Rattle.std.specs.Prelude.{◌≡◌, List, [], ℕ, ◌≤◌, length, take, replicate};
-ghost use Rattle.promise.specs.Told.{Told, number};
+ghost use Rattle.promise.specs.Told.{Told};
 ghost use Rattle.mock_base.specs.Told.{Answers};
-ghost use Rattle.operation_finish.specs.declared.Beside.{Beside};
 ghost use Rattle.operation.specs.declared.steps.Asked.TheVariants as asked;
 ghost use Rattle.operation.specs.Step.{StepMeets, usb_step};
 ghost use Rattle.operation.specs.Give.{usb_give};
 ghost use Rattle.mock.specs.Device.{write_bulk, read_bulk};
 ghost use Rattle.run_turn.specs.Turn.{usb_state, onward, wrote, got, is_write, lent_to, usb_turn};
-ghost use Rattle.run_turn.specs.Answers.{stop_told, TurnMeets, LentMeets};
-ghost use Rattle.run_turn.specs.Code.{turn_after, where_done, ended_by};
+ghost use Rattle.run_turn.specs.Answers.{stop_error_number, TurnMeets, LentMeets};
+ghost use Rattle.run_turn.specs.Code.{stop_of, turn_after, where_done, ended_by};
 
 use mock::device::{MockState, MockStep};
-use mock_base::error::{MockAnswer, MockResult, MockTransportError};
-use operation::steps::{UsbOperation, UsbStep, UsbStepped};
-use operation_finish::{Beside, FinishAnswer, Kind};
+use mock_base::error::{MockAnswer, MockTransportError};
+use operation::steps::{StepError, UsbOperation, UsbStep, UsbStepped};
+use operation_finish::{Beside, Kind, UsbReply};
+use protocol_status::failure::UsbOperationError;
+use rule_number::RuleNumber;
+use std::ops::ControlFlow;
 
-// What a run stops with before its budget is used.
-#[derive(Clone, Copy)]
-pub enum Stop {
-    // the operation's value, or 10 to 15
-    Finished(FinishAnswer),
+// Why a run stops before its budget is used.
+#[derive(Clone, Copy, Debug, PartialEq, Eq)]
+pub enum StopError {
+    // 10 to 15
+    Failed(UsbOperationError),
     // 50 to 63, 65
     Device(MockTransportError),
     // 20, which a run's own output is never too short for
@@ -32,31 +34,35 @@ pub enum Stop {
     DataDiffers,
 }
 
-impl Stop {
-    // Its number in the rules, 0 for the operation's value.
-    #[tactic(auto, unfolding(promise::specs::Told::number, crate::specs::Answers::stop_told))]
-    pub fn number(self) -> u8
-        ensures { (b : Beside) → result ≡ number (stop_told self b) }
-    {
-        match self {
-            Stop::Finished(finish) => finish.number(),
-            Stop::Device(error) => error.number(),
-            Stop::OutputTooShort => 20,
-            Stop::DataDiffers => 27,
+impl From<StepError> for StopError {
+    ghost from_gives = { λ step stop. stop ≡ stop_of step };
+
+    fn from(step: StepError) -> StopError {
+        match step {
+            StepError::Failed(error) => StopError::Failed(error),
+            StepError::OutputTooShort => StopError::OutputTooShort,
+            StepError::DataDiffers => StopError::DataDiffers,
         }
     }
 }
 
-// What one step and its transfer come to.
-#[derive(Clone, Copy)]
-pub enum Turn {
-    Goes,
-    Ends(Stop),
+impl RuleNumber for StopError {
+    ghost rule_number = { stop_error_number };
+
+    fn number(self) -> u8 {
+        match self {
+            StopError::Failed(error) => error.number(),
+            StopError::Device(error) => error.number(),
+            StopError::OutputTooShort => 20,
+            StopError::DataDiffers => 27,
+        }
+    }
 }
 
+// What one step and its transfer come to: the run goes on, or it ends with the operation's value or a refusal.
 #[derive(Clone, Copy)]
 pub struct UsbTurned {
-    pub turn: Turn,
+    pub turn: ControlFlow<Result<UsbReply, StopError>>,
     pub beside: Beside,
     pub operation: UsbOperation,
     pub device: MockState,
@@ -67,44 +73,31 @@ pub struct UsbTurned {
 pub fn is_write(kind: Kind) -> bool
     ensures { result ≡ is_write kind }
 {
-    match kind {
-        Kind::ChipInfo => false,
-        Kind::FlashId => false,
-        Kind::FlashInfo => false,
-        Kind::Capability => false,
-        Kind::Nothing => false,
-        Kind::Storage => false,
-        Kind::Read => false,
-        Kind::Write => true,
-    }
+    matches!(kind, Kind::Write)
 }
 
 // What the device's answer to a transfer makes of the run.
 #[tactic(auto, unfolding(crate::specs::Code::turn_after))]
-fn turn_after(answer: MockAnswer) -> Turn
+fn turn_after(answer: MockAnswer) -> ControlFlow<Result<UsbReply, StopError>>
     ensures { result ≡ turn_after answer.result }
 {
-    let result = answer.result;
-    let MockResult::Refused(error) = result else {
-        return Turn::Goes;
-    };
-    Turn::Ends(Stop::Device(error))
+    match answer.result {
+        Ok(()) => ControlFlow::Continue(()),
+        Err(error) => ControlFlow::Break(Err(StopError::Device(error))),
+    }
 }
 
 // After a transfer that the device answered so. Its answer has a signature where it is refused with one, and zeros elsewhere, as a run's has.
 fn after_transfer(operation: UsbOperation, done: MockStep) -> UsbTurned
     ensures { (told : Told Unit) (flash bytes : List ℕ) → Answers done.answer told → TurnMeets result flash bytes (onward told (usb_state operation done.state flash bytes)) }
 {
-    let answer = done.answer;
-    let signature = answer.signature;
-    let turn = turn_after(answer);
-    let beside = Beside::blank(signature);
-    let device = done.state;
+    let turn = turn_after(done.answer);
+    let beside = Beside::blank(done.answer.signature);
     UsbTurned {
         turn,
         beside,
         operation,
-        device,
+        device: done.state,
     }
 }
 
@@ -130,8 +123,7 @@ fn given_after(
     ensures value { result ≡ where_done answer.result (usb_give operation bytes.now (length room.old)).next operation }
     ensures room_unchanged { bytes.now ≡ [] → room.new ≡ room.old }
 {
-    let result = answer.result;
-    let MockResult::Done = result else {
+    let Ok(()) = answer.result else {
         return operation;
     };
     let given = operation.give(bytes, room);
@@ -171,24 +163,21 @@ fn sectors_turn(
 fn step_over(operation: UsbOperation, source: &[u8], room: &[u8], out: &mut [u8]) -> UsbStepped
     ensures { StepMeets result out.old out.new (usb_step operation (length (lent_to operation.kind source.now room.now)) (length out.old)) }
 {
-    let kind = operation.kind;
-    if is_write(kind) {
-        return operation.step(source, out);
+    if is_write(operation.kind) {
+        operation.step(source, out)
+    } else {
+        operation.step(room, out)
     }
-    operation.step(room, out)
 }
 
 // The end of a run, at a step that asks for no transfer.
-fn ended(stop: Stop, stepped: UsbStepped, device: MockState) -> UsbTurned
+fn ended(stop: Result<UsbReply, StopError>, stepped: UsbStepped, device: MockState) -> UsbTurned
     ensures { result ≡ ended_by stop stepped.beside stepped.next device }
 {
-    let turn = Turn::Ends(stop);
-    let beside = stepped.beside;
-    let operation = stepped.next;
     UsbTurned {
-        turn,
-        beside,
-        operation,
+        turn: ControlFlow::Break(stop),
+        beside: stepped.beside,
+        operation: stepped.next,
         device,
     }
 }
@@ -206,15 +195,16 @@ pub fn take_turn(
 {
     let mut out = [0u8; 31];
     let stepped = step_over(operation, source, room, &mut out);
-    let step = stepped.step;
+    let step = match stepped.step {
+        Ok(step) => step,
+        Err(error) => return ended(Err(StopError::from(error)), stepped, device),
+    };
     match step {
-        UsbStep::WriteCommand => return write_turn(stepped.next, device, flash, &out),
-        UsbStep::WriteData(size) => return write_turn(stepped.next, device, flash, &source[..size]),
-        UsbStep::ReadInband(size) => return reply_turn(stepped.next, device, flash, size),
-        UsbStep::ReadData(size) => return sectors_turn(stepped.next, device, flash, room, size),
-        UsbStep::ReadStatus(_) => return reply_turn(stepped.next, device, flash, 13),
-        UsbStep::Finished(finish) => return ended(Stop::Finished(finish), stepped, device),
-        UsbStep::OutputTooShort => return ended(Stop::OutputTooShort, stepped, device),
-        UsbStep::DataDiffers => return ended(Stop::DataDiffers, stepped, device),
+        UsbStep::WriteCommand => write_turn(stepped.next, device, flash, &out),
+        UsbStep::WriteData(size) => write_turn(stepped.next, device, flash, &source[..size]),
+        UsbStep::ReadInband(size) => reply_turn(stepped.next, device, flash, size),
+        UsbStep::ReadData(size) => sectors_turn(stepped.next, device, flash, room, size),
+        UsbStep::ReadStatus(_) => reply_turn(stepped.next, device, flash, 13),
+        UsbStep::Finished(reply) => ended(Ok(reply), stepped, device),
     }
 }

@@ -11,20 +11,21 @@ use Rattle.maskrom.specs.declared.WholeUpload.{WholeUpload}
 use Rattle.maskrom.specs.Answers.{Asks, writes, finish}
 use Rattle.maskrom.specs.Whole.{whole_step}
 use Rattle.mock_base.specs.Told.{result_told, signature_beside}
-use Rattle.mock_base.specs.declared.error.MockResult.{MockResult}
-use Rattle.mock_base.specs.declared.error.MockResult.TheVariants as result
 use Rattle.mock.specs.declared.device.MockStep.{MockStep}
 use Rattle.mock.specs.Device.{Call, MockMeets, write_control}
 use Rattle.promise.specs.Run.{ends}
 use Rattle.run_upload.specs.Load.{LoadState, load_state, onward, carried, carries, load_turn}
 use Rattle.run_upload.specs.Answers.{load_stop_told, turn_told, TurnMeets}
 use Rattle.run_upload.specs.Code.{after_result, after_control}
+use Rattle.std.specs.Prelude.{Result}
+use Rattle.mock_base.specs.declared.error.MockTransportError.{MockTransportError}
+use Rattle.std.specs.declared.result.Result.TheVariants.{Ok, Err}
 
 -- what the device answered decides whether the run goes on
-after_told : (r : MockResult) (s : LoadState) → turn_told (after_result r) s ≡ onward (result_told r no_signature) s
+after_told : (r : Result Unit MockTransportError) (s : LoadState) → turn_told (after_result r) s ≡ onward (result_told r no_signature) s
 unfolding turn_told after_result onward result_told load_stop_told
-after_told result.Done s = refl
-after_told (result.Refused error) s = refl
+after_told (Ok u) s = refl
+after_told (Err error) s = refl
 
 pub carried_by : (upload : WholeUpload) (m : MockStep) (store : List ℕ) (call : Call) → MockMeets m store call
     → signature_beside call.told ≡ no_signature → TurnMeets (after_control upload m) store (carried upload call)

@@ -18,19 +18,19 @@ use Rattle.maskrom.specs.Whole.{fresh_whole, most, sends_on, whole_step}
 use Rattle.mock_base.specs.Told.{error_values}
 use Rattle.mock_base.specs.Flash.{flash_rules, flash_sectors, size_told}
 use Rattle.mock_base.specs.declared.error.MockTransportError.TheVariants as error
-use Rattle.mock_base.specs.declared.range.FlashSectors.TheVariants as size
 use Rattle.mock.specs.declared.device.MockState.{MockState}
 use Rattle.promise.specs.Run.{ends, End, tells, out_of_steps, end_told, Ran, ran, follow, runs}
 use Rattle.promise.proofs.Resumed.{never_more}
-use Rattle.run_upload.specs.declared.LoadStop.TheVariants as stop
-use Rattle.run_upload.specs.declared.LoadTurn.TheVariants as turn
+use Rattle.std.specs.declared.ops.ControlFlow.TheVariants.{Continue, Break}
+use Rattle.run_upload.specs.declared.LoadStopError.TheVariants as stop
 use Rattle.run_upload.specs.declared.LoadTurned.{LoadTurned}
-use Rattle.run_upload.specs.declared.LoadAnswer.TheVariants as answer
+use Rattle.run_upload.specs.declared.LoadError.TheVariants.{Stopped, OutOfSteps}
 use Rattle.run_upload.specs.declared.LoadRun.{LoadRun}
 use Rattle.run_upload.specs.Load.{LoadState, load_state, onward, carries, load_turn, load_rules, unstarted, load_run}
 use Rattle.run_upload.specs.Answers.{load_stop_told, turn_told, answer_end, TurnMeets, RunMeets}
 use Rattle.run_upload.proofs.Checks.{flash_refused, store_refused, unrefused}
 use Rattle.run_upload.proofs.Unique.{state_for, state_for_lem}
+use Rattle.std.specs.declared.result.Result.TheVariants.{Ok, Err}
 
 -- an upload that has sent all that it had to, and two of which nothing is sent: of no byte, and of one
 abbrev sent_all : WholeUpload
@@ -59,19 +59,19 @@ module _ (device : MockState) (store : List ℕ) where
 
   module _ (r : LoadTurned) (left : List ℕ) where
     -- a turn that goes on for ever
-    pub never_ending : TurnMeets r left (load_turn [] (load_state sent_all device store)) → r.turn ≡ turn.Goes → ⊥
+    pub never_ending : TurnMeets r left (load_turn [] (load_state sent_all device store)) → r.turn ≡ Continue tt → ⊥
     unfolding turn_told
     never_ending meets e =
         let s = load_state r.upload r.device left in
-        let clash : turn_told turn.Goes s ≡ ends (given tt) (load_state sent_all device store) = ap (λ t. turn_told t s) (sym e) ∙ meets.tells ∙ turn_ends in
+        let clash : turn_told (Continue tt) s ≡ ends (given tt) (load_state sent_all device store) = ap (λ t. turn_told t s) (sym e) ∙ meets.tells ∙ turn_ends in
         let z : ◌≡◌ {A = ℕ} 0 1 = cc in omega arith
 
     -- a turn that calls 27 a 20
-    pub one_refusal_for_another : TurnMeets r left (load_turn [] (load_state of_one device store)) → r.turn ≡ turn.Ends stop.OutputTooShort → ⊥
+    pub one_refusal_for_another : TurnMeets r left (load_turn [] (load_state of_one device store)) → r.turn ≡ Break (Err stop.OutputTooShort) → ⊥
     unfolding turn_told load_stop_told
     one_refusal_for_another meets e =
         let s = load_state r.upload r.device left in
-        let clash : turn_told (turn.Ends stop.OutputTooShort) s ≡ ends (refused 27 []) (load_state of_one device store) = ap (λ t. turn_told t s) (sym e) ∙ meets.tells ∙ turn_differs in
+        let clash : turn_told (Break (Err stop.OutputTooShort)) s ≡ ends (refused 27 []) (load_state of_one device store) = ap (λ t. turn_told t s) (sym e) ∙ meets.tells ∙ turn_differs in
         let z : ◌≡◌ {A = ℕ} 20 27 = cc in omega arith
 
     -- an upload that stays where it stood
@@ -84,22 +84,22 @@ module _ (device : MockState) (store : List ℕ) where
         let z : ◌≡◌ {A = ℕ} 0 1 = cc in omega arith
 
 -- one number for every stop
-pub one_number_for_all : (n : ℕ) → n ≡ number (load_stop_told stop.OutputTooShort) → n ≡ number (load_stop_told stop.ImageDiffers) → ⊥
+pub one_number_for_all : (n : ℕ) → n ≡ number (load_stop_told (Err stop.OutputTooShort)) → n ≡ number (load_stop_told (Err stop.ImageDiffers)) → ⊥
 unfolding number load_stop_told
 one_number_for_all n e f = omega arith
 
 -- a finish told as a refusal
-pub finish_a_refusal : (n : ℕ) → n ≡ number (load_stop_told stop.Finished) → 1 ≤ n → ⊥
+pub finish_a_refusal : (n : ℕ) → n ≡ number (load_stop_told (Ok tt)) → 1 ≤ n → ⊥
 unfolding number load_stop_told
 finish_a_refusal n e f = omega arith
 
 -- 28 told as 0, as if the upload were there
-pub spent_is_done : (n : ℕ) → n ≡ number (end_told (answer_end answer.OutOfSteps)) → n ≡ 0 → ⊥
+pub spent_is_done : (n : ℕ) → n ≡ number (end_told (answer_end (Err OutOfSteps))) → n ≡ 0 → ⊥
 unfolding number end_told answer_end
 spent_is_done n e f = omega arith
 
 -- every end of a run told as 28
-pub ended_is_spent : (n : ℕ) → n ≡ number (end_told (answer_end (answer.Ended stop.Finished))) → n ≡ 28 → ⊥
+pub ended_is_spent : (n : ℕ) → n ≡ number (end_told (answer_end (Ok tt))) → n ≡ 28 → ⊥
 unfolding number end_told answer_end load_stop_told
 ended_is_spent n e f = omega arith
 
@@ -115,29 +115,29 @@ a_step_too_many r image left flash budget s meets e =
 
 -- 61 told of a flash that is no whole number of sectors and has too many: 60 comes first
 pub sectors_before_size : (r : LoadRun) (image left : List ℕ) (budget : ℕ) (s : LoadState) → RunMeets r left (load_run image 33554945 budget s)
-    → r.answer ≡ answer.Ended (stop.Device error.TooManySectors) → ⊥
+    → r.answer ≡ Err (Stopped (stop.Device error.TooManySectors)) → ⊥
 unfolding answer_end load_stop_told error_values size_told flash_sectors flash_rules or_refuse
 sectors_before_size r image left budget s meets e =
-    let run = flash_refused image 33554945 budget s (size.Refused (error.FlashSize 33554945)) (error.FlashSize 33554945) refl refl in
+    let run = flash_refused image 33554945 budget s (Err (error.FlashSize 33554945)) (error.FlashSize 33554945) refl refl in
     let clash : ◌≡◌ {A = End Unit} (tells (refused 61 [])) (tells (refused 60 (33554945 ∷ []))) = ap answer_end (sym e) ∙ meets.tells ∙ ap (λ w. w.end) run in
     let z : ◌≡◌ {A = ℕ} 61 60 = cc in omega arith
 
 module _ (r : LoadRun) (device : MockState) (left : List ℕ) (budget : ℕ) where
   -- 27 told where the store is of another length, too: 65 comes first
-  pub image_before_store : device.store_length ≡ 0 → RunMeets r left (load_run [] 0 budget (load_state of_one device (0 ∷ []))) → r.answer ≡ answer.Ended stop.ImageDiffers → ⊥
+  pub image_before_store : device.store_length ≡ 0 → RunMeets r left (load_run [] 0 budget (load_state of_one device (0 ∷ []))) → r.answer ≡ Err (Stopped stop.ImageDiffers) → ⊥
   unfolding answer_end load_stop_told size_told flash_sectors flash_rules or_refuse
   image_before_store none meets e =
-      let run = store_refused [] 0 budget (load_state of_one device (0 ∷ [])) (size.Whole 0) 0 refl refl (λ h. omega arith) in
+      let run = store_refused [] 0 budget (load_state of_one device (0 ∷ [])) (Ok 0) 0 refl refl (λ h. omega arith) in
       let clash : ◌≡◌ {A = End Unit} (tells (refused 27 [])) (tells (refused 65 [])) = ap answer_end (sym e) ∙ meets.tells ∙ ap (λ w. w.end) run in
       let z : ◌≡◌ {A = ℕ} 27 65 = cc in omega arith
 
   module _ (store : List ℕ) (stored : length store ≡ device.store_length) where
     at_the_finish : load_run [] 0 (suc budget) (load_state sent_all device store) ≡ ran (tells (given tt)) 1 (load_state sent_all device store)
     unfolding runs follow size_told flash_sectors flash_rules or_refuse
-    at_the_finish = unrefused [] 0 (suc budget) (load_state sent_all device store) (size.Whole 0) 0 refl refl stored refl ∙ rw (turn_ends device store)
+    at_the_finish = unrefused [] 0 (suc budget) (load_state sent_all device store) (Ok 0) 0 refl refl stored refl ∙ rw (turn_ends device store)
 
     -- 28 told before the budget is used
-    pub out_of_steps_early : RunMeets r left (load_run [] 0 (suc budget) (load_state sent_all device store)) → r.answer ≡ answer.OutOfSteps → ⊥
+    pub out_of_steps_early : RunMeets r left (load_run [] 0 (suc budget) (load_state sent_all device store)) → r.answer ≡ Err OutOfSteps → ⊥
     unfolding answer_end
     out_of_steps_early meets e =
         let clash : ◌≡◌ {A = End Unit} out_of_steps (tells (given tt)) = ap answer_end (sym e) ∙ meets.tells ∙ ap (λ w. w.end) at_the_finish in

@@ -3,22 +3,26 @@
 #![tactic(auto)]
 
 ghost use Rattle.std.specs.Prelude.{◌≡◌, ◌≤◌, length, take};
-ghost use Rattle.promise.specs.Told.{number};
-ghost use Rattle.promise.specs.Run.{end_told, runs};
-ghost use Rattle.run_upload.specs.Load.{load_state, carried, load_turn, load_run, upload_budget};
+ghost use Rattle.promise.specs.Told.{given};
+ghost use Rattle.promise.specs.Rules.{unless};
+ghost use Rattle.promise.specs.Run.{runs};
+ghost use Rattle.run_upload.specs.declared.LoadStopError.TheVariants.{Device};
+ghost use Rattle.run_upload.specs.declared.LoadError.TheVariants.{Stopped};
+ghost use Rattle.run_upload.specs.Load.{load_state, carried, load_turn, load_rules, load_run, upload_budget};
 ghost use Rattle.mock.specs.Device.{write_control};
-ghost use Rattle.run_upload.specs.Answers.{load_stop_told, answer_end, TurnMeets, RunMeets};
+ghost use Rattle.run_upload.specs.Answers.{stop_error_number, load_error_number, stop_by_step, load_stop_told, TurnMeets, RunMeets};
 ghost use Rattle.run_upload.specs.Code.{turned_by, run_by, after_control};
 
-use maskrom::{Control, UploadStep, WholeUpload};
+use maskrom::{Control, UploadError, UploadStep, WholeUpload};
 use mock::device::{MockState, MockStep};
-use mock_base::error::{MockResult, MockTransportError};
-use mock_base::range::{FlashSectors, flash_sectors};
+use mock_base::error::MockTransportError;
+use mock_base::range::flash_sectors;
+use rule_number::RuleNumber;
+use std::ops::ControlFlow;
 
-// What a run stops with.
-#[derive(Clone, Copy)]
-pub enum LoadStop {
-    Finished,
+// Why a turn is the last of a run before the finish.
+#[derive(Clone, Copy, Debug, PartialEq, Eq)]
+pub enum LoadStopError {
     // 51, 58 to 61, 65
     Device(MockTransportError),
     // 20, which a run's own block is never too short for
@@ -27,62 +31,85 @@ pub enum LoadStop {
     ImageDiffers,
 }
 
-impl LoadStop {
-    // Its number in the rules, 0 for the finish.
-    pub fn number(self) -> u8
-        ensures { result ≡ number (load_stop_told self) }
-    {
+impl RuleNumber for LoadStopError {
+    ghost rule_number = { stop_error_number };
+
+    fn number(self) -> u8 {
         match self {
-            LoadStop::Finished => 0,
-            LoadStop::Device(error) => error.number(),
-            LoadStop::OutputTooShort => 20,
-            LoadStop::ImageDiffers => 27,
+            LoadStopError::Device(error) => error.number(),
+            LoadStopError::OutputTooShort => 20,
+            LoadStopError::ImageDiffers => 27,
         }
     }
 }
 
-// What one step and its transfer come to.
-#[derive(Clone, Copy)]
-pub enum LoadTurn {
-    Goes,
-    Ends(LoadStop),
+impl From<MockTransportError> for LoadStopError {
+    ghost from_gives = { λ error stop. stop ≡ Device error };
+
+    fn from(error: MockTransportError) -> LoadStopError {
+        LoadStopError::Device(error)
+    }
 }
 
+impl From<UploadError> for LoadStopError {
+    ghost from_gives = { λ error stop. stop ≡ stop_by_step error };
+
+    fn from(error: UploadError) -> LoadStopError {
+        match error {
+            UploadError::OutputTooShort => LoadStopError::OutputTooShort,
+            UploadError::ImageDiffers => LoadStopError::ImageDiffers,
+        }
+    }
+}
+
+// Why a run ends before the finish.
+#[derive(Clone, Copy, Debug, PartialEq, Eq)]
+pub enum LoadError {
+    Stopped(LoadStopError),
+    // 28
+    OutOfSteps,
+}
+
+impl RuleNumber for LoadError {
+    ghost rule_number = { load_error_number };
+
+    fn number(self) -> u8 {
+        match self {
+            LoadError::Stopped(error) => error.number(),
+            LoadError::OutOfSteps => 28,
+        }
+    }
+}
+
+impl From<LoadStopError> for LoadError {
+    ghost from_gives = { λ stop error. error ≡ Stopped stop };
+
+    fn from(stop: LoadStopError) -> LoadError {
+        LoadError::Stopped(stop)
+    }
+}
+
+// What one step and its transfer come to: one more, or the end of the run.
 #[derive(Clone, Copy)]
 pub struct LoadTurned {
-    pub turn: LoadTurn,
+    pub turn: ControlFlow<Result<(), LoadStopError>>,
     pub upload: WholeUpload,
     pub device: MockState,
 }
 
 #[derive(Clone, Copy)]
-pub enum LoadAnswer {
-    Ended(LoadStop),
-    // 28
-    OutOfSteps,
-}
-
-impl LoadAnswer {
-    // Its number in the rules, 0 for the finish.
-    pub fn number(self) -> u8
-        ensures { result ≡ number (end_told (answer_end self)) }
-    {
-        match self {
-            LoadAnswer::Ended(stop) => stop.number(),
-            LoadAnswer::OutOfSteps => 28,
-        }
-    }
-}
-
-#[derive(Clone, Copy)]
 pub struct LoadRun {
-    pub answer: LoadAnswer,
+    pub answer: Result<(), LoadError>,
     pub steps: u32,
     pub upload: WholeUpload,
     pub device: MockState,
 }
 
-fn turned(turn: LoadTurn, upload: WholeUpload, device: MockState) -> LoadTurned
+fn turned(
+    turn: ControlFlow<Result<(), LoadStopError>>,
+    upload: WholeUpload,
+    device: MockState,
+) -> LoadTurned
     ensures { result ≡ turned_by turn upload device }
 {
     LoadTurned {
@@ -96,14 +123,9 @@ fn turned(turn: LoadTurn, upload: WholeUpload, device: MockState) -> LoadTurned
 fn after_control(upload: WholeUpload, sent: MockStep) -> LoadTurned
     ensures { result ≡ after_control upload sent }
 {
-    let device = sent.state;
-    let answer = sent.answer;
-    let result = answer.result;
-    match result {
-        MockResult::Done => turned(LoadTurn::Goes, upload, device),
-        MockResult::Refused(error) => {
-            turned(LoadTurn::Ends(LoadStop::Device(error)), upload, device)
-        }
+    match sent.answer.result {
+        Ok(()) => turned(ControlFlow::Continue(()), upload, sent.state),
+        Err(error) => turned(ControlFlow::Break(Err(error.into())), upload, sent.state),
     }
 }
 
@@ -118,13 +140,12 @@ fn carry(
     requires { c.size ≤ length block.now }
     ensures { TurnMeets result store.new (carried upload (write_control device c.request_type c.request c.value c.index (take c.size block.now) store.old)) }
 {
-    let size = c.size;
     let sent = device.write_control(
         c.request_type,
         c.request,
         c.value,
         c.index,
-        &block[..size],
+        &block[..c.size],
         store,
     );
     after_control(upload, sent)
@@ -139,21 +160,17 @@ pub fn load_turn(
 ) -> LoadTurned
     ensures { TurnMeets result store.new (load_turn image.now (load_state upload device store.old)) }
 {
-    let mut block = [0u8; 4096];
+    let mut block = [0; 4096];
     let stepped = upload.step(image, &mut block);
     let next = stepped.next;
-    let step = stepped.step;
-    match step {
-        UploadStep::WriteControl(c) => carry(next, device, c, &block, store),
-        UploadStep::Finished => turned(LoadTurn::Ends(LoadStop::Finished), next, device),
-        UploadStep::OutputTooShort => {
-            turned(LoadTurn::Ends(LoadStop::OutputTooShort), next, device)
-        }
-        UploadStep::ImageDiffers => turned(LoadTurn::Ends(LoadStop::ImageDiffers), next, device),
+    match stepped.step {
+        Ok(UploadStep::WriteControl(c)) => carry(next, device, c, &block, store),
+        Ok(UploadStep::Finished) => turned(ControlFlow::Break(Ok(())), next, device),
+        Err(error) => turned(ControlFlow::Break(Err(error.into())), next, device),
     }
 }
 
-fn ran(answer: LoadAnswer, steps: u32, upload: WholeUpload, device: MockState) -> LoadRun
+fn ran(answer: Result<(), LoadError>, steps: u32, upload: WholeUpload, device: MockState) -> LoadRun
     ensures { result ≡ run_by answer steps upload device }
 {
     LoadRun {
@@ -166,37 +183,43 @@ fn ran(answer: LoadAnswer, steps: u32, upload: WholeUpload, device: MockState) -
 
 // Step after step, until the finish, a refusal or the end of the budget.
 fn run_on(
-    upload: WholeUpload,
-    device: MockState,
+    mut upload: WholeUpload,
+    mut device: MockState,
     image: &[u8],
     store: &mut [u8],
     budget: u32,
 ) -> LoadRun
     ensures { RunMeets result store.new (runs (load_turn image.now) budget (load_state upload device store.old)) }
 {
-    let mut now_upload = upload;
-    let mut now_device = device;
-    let mut used: u32 = 0;
-    let answer = loop {
-        if used == budget {
-            break LoadAnswer::OutOfSteps;
+    for used in 0..budget {
+        let turned = load_turn(upload, device, image, store);
+        upload = turned.upload;
+        device = turned.device;
+        if let ControlFlow::Break(stop) = turned.turn {
+            return ran(stop.map_err(LoadError::Stopped), used + 1, upload, device);
         }
-        let t = load_turn(now_upload, now_device, image, store);
-        now_upload = t.upload;
-        now_device = t.device;
-        used += 1;
-        let turn = t.turn;
-        let LoadTurn::Ends(stop) = turn else {
-            continue;
-        };
-        break LoadAnswer::Ended(stop);
-    };
-    LoadRun {
-        answer,
-        steps: used,
-        upload: now_upload,
-        device: now_device,
     }
+    ran(Err(LoadError::OutOfSteps), budget, upload, device)
+}
+
+// What a run checks before its first step.
+fn checked(
+    upload: &WholeUpload,
+    device: &MockState,
+    flash: &[u8],
+    store: &[u8],
+    image: &[u8],
+) -> Result<(), LoadStopError>
+    ensures { load_stop_told result ≡ unless (load_rules (load_state upload.now device.now store.now) (length flash.now) (length image.now)) (given tt) }
+{
+    flash_sectors(flash.len())?;
+    if store.len() != device.store_length {
+        return Err(LoadStopError::Device(MockTransportError::StoreLength));
+    }
+    if image.len() != upload.length as usize {
+        return Err(LoadStopError::ImageDiffers);
+    }
+    Ok(())
 }
 
 // Runs an upload, from wherever it stands.
@@ -210,26 +233,8 @@ pub fn run_upload(
 ) -> LoadRun
     ensures { RunMeets result store.new (load_run image.now (length flash.now) budget (load_state upload device store.old)) }
 {
-    let size = flash_sectors(flash.len());
-    if let FlashSectors::Refused(error) = size {
-        return ran(
-            LoadAnswer::Ended(LoadStop::Device(error)),
-            0,
-            upload,
-            device,
-        );
-    }
-    if store.len() != device.store_length {
-        let error = MockTransportError::StoreLength;
-        return ran(
-            LoadAnswer::Ended(LoadStop::Device(error)),
-            0,
-            upload,
-            device,
-        );
-    }
-    if image.len() != (upload.length as usize) {
-        return ran(LoadAnswer::Ended(LoadStop::ImageDiffers), 0, upload, device);
+    if let Err(error) = checked(&upload, &device, flash, store, image) {
+        return ran(Err(error.into()), 0, upload, device);
     }
     run_on(upload, device, image, store, budget)
 }

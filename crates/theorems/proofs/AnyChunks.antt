@@ -13,8 +13,6 @@ use Rattle.deck.specs.Bench.{StartMeets}
 use Rattle.deck_line.specs.Line.{longest_line}
 use Rattle.deck_block.specs.Blocks.{begun, joined, WholeButLast}
 use Rattle.deck_chunk.specs.declared.ChunkCount.{ChunkCount}
-use Rattle.deck_chunk.specs.declared.ChunkAnswer.{ChunkAnswer}
-use Rattle.deck_chunk.specs.declared.ChunkAnswer.TheVariants.{Dealt, TooShort}
 use Rattle.deck_chunk.specs.declared.ChunkStep.{ChunkStep}
 use Rattle.deck_chunk.specs.Deck.{Table, table, Lines, then_deal, deal_all, new_deck, deck_start, deck_lines, bench_store_length, bench_store, bench_lines}
 use Rattle.deck_chunk.specs.Chunk.{chunk_told, Chunk, chunk_dealt, deal_chunk, ChunkMeets}
@@ -22,16 +20,19 @@ use Rattle.deck_chunk.proofs.Laws.{fits}
 use Rattle.deck_chunk.proofs.Cuts.{chunk_then, chunk_alone, no_input}
 use Rattle.theorems.proofs.BenchStart.{default_start}
 use Rattle.theorems.specs.Chunks.{written, Deals, no_more, a_chunk}
+use Rattle.std.specs.Prelude.{Result}
+use Rattle.rule_number.specs.declared.OutputTooShort.{OutputTooShort}
+use Rattle.std.specs.declared.result.Result.TheVariants.{Ok, Err}
 
 bytes_in : Told ChunkCount → ℕ
 bytes_in (given count) = count.bytes
 bytes_in (refused n values) = 0
 
 -- what is told of a chunk that was dealt says how many bytes are its lines
-written_of : (a : ChunkAnswer) (count : ChunkCount) (buffer : List ℕ) → chunk_told a ≡ given count → written a buffer ≡ take count.bytes buffer
+written_of : (a : Result ChunkCount OutputTooShort) (count : ChunkCount) (buffer : List ℕ) → chunk_told a ≡ given count → written a buffer ≡ take count.bytes buffer
 unfolding chunk_told written bytes_in
-written_of (Dealt other) count buffer e = let n : other.bytes ≡ count.bytes = ap bytes_in e in ap (λ (k : ℕ). take k buffer) n
-written_of TooShort count buffer e = let z : ◌≡◌ {A = ℕ} 0 1 = cc in absurd (omega arith)
+written_of (Ok other) count buffer e = let n : other.bytes ≡ count.bytes = ap bytes_in e in ap (λ (k : ℕ). take k buffer) n
+written_of (Err short) count buffer e = let z : ◌≡◌ {A = ℕ} 0 1 = cc in absurd (omega arith)
 
 module _ (t : Table) (chunk buffer : List ℕ) (r : ChunkStep) (after flash store : List ℕ)
     (room : longest_line * begun (length chunk) ≤ length buffer) (m : ChunkMeets r after flash store (deal_chunk chunk t buffer)) where

@@ -25,7 +25,6 @@ use Rattle.mock_table.specs.Ways.{stored_by, moved_by, splits, switches, tells_s
 use Rattle.mock_table.specs.Table.{sector_turn, stored_reset, erase_rules, erase_turn, zero_length_turn, start_turn, write_io_turn, write_row, write_turn, reply_turn, code_turn, read_io_turn, status_turn, read_row}
 use Rattle.mock_table.specs.declared.session.CommandState.{CommandState}
 use Rattle.mock_table.specs.declared.session.CommandState.TheVariants.{None, IO, Status}
-use Rattle.mock_table.specs.declared.session.LastReset.{LastReset}
 use Rattle.mock_table.specs.declared.session.Session.{Session}
 use Rattle.mock_table.specs.declared.outcome.Effect.{Effect}
 use Rattle.mock_table.specs.declared.outcome.Effect.TheVariants.{Nothing, Fill, Store, Program, Supply, Reply}
@@ -38,15 +37,16 @@ use Rattle.mock.specs.Device.{session_of, bulk, block_rules, create_told, create
 use Rattle.mock.specs.declared.device.MockState.{MockState}
 use Rattle.theorems.specs.Before as before
 use Rattle.theorems.specs.Before.{AsThen}
+use Rattle.std.specs.Prelude.{Option}
 
 -- THE TABLE
 
-reset_as : (t : Told ResetOpcode) (last : LastReset) (c : CommandBlock) → stored_reset t last c ≡ before.stored_reset t last c
+reset_as : (t : Told ResetOpcode) (last : Option ResetOpcode) (c : CommandBlock) → stored_reset t last c ≡ before.stored_reset t last c
 unfolding stored_reset before.stored_reset
 reset_as (given opcode) last c = refl
 reset_as (refused number values) last c = refl
 
-module _ (last : LastReset) (sectors : ℕ) where
+module _ (last : Option ResetOpcode) (sectors : ℕ) where
   zero_length_as : (block : ℕ) (c : CommandBlock) → zero_length_turn First block last c sectors ≡ before.zero_length_turn last c sectors
   unfolding zero_length_turn before.zero_length_turn erase_turn erase_rules or_refuse splits switches
   zero_length_as block c =
@@ -82,7 +82,7 @@ flash_as (Program range) bytes flash h = absurd h
 flash_as (Supply range) bytes flash h = refl
 flash_as (Reply kind) bytes flash h = refl
 
-module _ (config : MockDeviceConfig) (flash buffer : List ℕ) (last : LastReset) (sectors room : ℕ) where
+module _ (config : MockDeviceConfig) (flash buffer : List ℕ) (last : Option ResetOpcode) (sectors room : ℕ) where
   abbrev Fills : Turn → Type 0
   Fills t = buffer_after config t.effect flash buffer ≡ before.buffer_after config t.effect flash buffer
 

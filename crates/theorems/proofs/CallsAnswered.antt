@@ -17,10 +17,8 @@ use Rattle.maskrom_transfer.specs.declared.MaskRomSteps.{MaskRomSteps}
 use Rattle.maskrom_transfer.specs.declared.MaskRomSteps.TheVariants.{Writing, Check, Dummy, Done}
 use Rattle.maskrom_transfer.specs.Moves.{block_size, moves_at}
 use Rattle.maskrom.specs.declared.MaskRomOperation.{MaskRomOperation}
-use Rattle.maskrom.specs.declared.PartStep.{PartStep}
 use Rattle.maskrom.specs.declared.PartStep.TheVariants as part
 use Rattle.maskrom.specs.declared.PartStepped.{PartStepped}
-use Rattle.maskrom.specs.declared.UploadStep.{UploadStep}
 use Rattle.maskrom.specs.declared.UploadStep.TheVariants as upload
 use Rattle.maskrom.specs.declared.CloseStepped.{CloseStepped}
 use Rattle.maskrom.specs.Answers.{longest, control, Handed, Asks, part_told, step_told}
@@ -32,17 +30,25 @@ use Rattle.maskrom.specs.Calls.{PartMeets, CloseMeets}
 use Rattle.theorems.specs.AnyCaller.{taken_by, handed_seen, asked_seen, Reached, hands, closes}
 use Rattle.theorems.proofs.AnyCaller.{closing_not_refused}
 use Rattle.theorems.proofs.ImageInOrder.{slice_not_refused}
+use Rattle.std.specs.Prelude.{Result}
+use Rattle.maskrom.specs.declared.PartStep.{PartStep}
+use Rattle.maskrom.specs.declared.PartError.{PartError}
+use Rattle.std.specs.declared.result.Result.TheVariants.{Ok, Err}
+use Rattle.maskrom.specs.declared.PartError.TheVariants as part_error
+use Rattle.maskrom.specs.declared.UploadStep.{UploadStep}
+use Rattle.maskrom.specs.declared.UploadError.{UploadError}
+use Rattle.maskrom.specs.declared.UploadError.TheVariants as upload_error
 
-pub part_told_lem : (m : MaskRomOperation) (xs : List ℕ) (room : ℕ) → (s : PartStep) × (part_told s ≡ said (part_step m xs room))
+pub part_told_lem : (m : MaskRomOperation) (xs : List ℕ) (room : ℕ) → (s : Result PartStep PartError) × (part_told s ≡ said (part_step m xs room))
 unfolding part_step or_refuse takes said part_told
 part_told_lem m xs room =
     let ys = take (4096 - waiting m) xs in
-    let P : Told (Does Handed MaskRomOperation) → Type 0 = λ t. (s : PartStep) × (part_told s ≡ said t) in
-    by_test P (ltb room 4096) (λ e. (part.OutputTooShort, refl))
-    (λ e. by_test P (closed m.steps) (λ e. (part.AlreadyClosed, refl))
-    (λ e. by_test P (ltb longest (m.taken + length xs)) (λ e. (part.ImageTooLong, refl))
-    (λ e. by_test (λ (d : Does Handed MaskRomOperation). (s : PartStep) × (part_told s ≡ given d.says)) (eqb (waiting m + length ys) 4096)
-    (λ e. (part.WriteControl (length ys) (control m.area 4096), refl)) (λ e. (part.Taken (length ys), refl)))))
+    let P : Told (Does Handed MaskRomOperation) → Type 0 = λ t. (s : Result PartStep PartError) × (part_told s ≡ said t) in
+    by_test P (ltb room 4096) (λ e. ((Err part_error.OutputTooShort), refl))
+    (λ e. by_test P (closed m.steps) (λ e. ((Err part_error.AlreadyClosed), refl))
+    (λ e. by_test P (ltb longest (m.taken + length xs)) (λ e. ((Err part_error.ImageTooLong), refl))
+    (λ e. by_test (λ (d : Does Handed MaskRomOperation). (s : Result PartStep PartError) × (part_told s ≡ given d.says)) (eqb (waiting m + length ys) 4096)
+    (λ e. (Ok (part.WriteControl (length ys) (control m.area 4096)), refl)) (λ e. (Ok (part.Taken (length ys)), refl)))))
 
 -- a call of `part` has an answer, at every record
 pub part_answered : (m : MaskRomOperation) (xs before : List ℕ) → (r : PartStepped) × (now : List ℕ) × PartMeets r m xs before now
@@ -51,16 +57,16 @@ part_answered m xs before =
     let s = part_told_lem m xs (length before) in
     (parted s.0 (after m t), front (sent t) before, record { tells = s.1; next = refl; leaves = refl })
 
-pub asked_told : (s : MaskRomSteps) (area n : ℕ) → (x : UploadStep) × (step_told x ≡ given (asks s area n))
+pub asked_told : (s : MaskRomSteps) (area n : ℕ) → (x : Result UploadStep UploadError) × (step_told x ≡ given (asks s area n))
 unfolding asks step_told
-asked_told Writing area n = (upload.WriteControl (control area n), refl)
-asked_told Check area n = (upload.WriteControl (control area n), refl)
-asked_told Dummy area n = (upload.WriteControl (control area n), refl)
-asked_told Done area n = (upload.Finished, refl)
+asked_told Writing area n = (Ok (upload.WriteControl (control area n)), refl)
+asked_told Check area n = (Ok (upload.WriteControl (control area n)), refl)
+asked_told Dummy area n = (Ok (upload.WriteControl (control area n)), refl)
+asked_told Done area n = ((Ok upload.Finished), refl)
 
-pub close_told : (m : MaskRomOperation) (room : ℕ) → Dec (room < 4096) → (s : UploadStep) × (step_told s ≡ said (close_step m room))
+pub close_told : (m : MaskRomOperation) (room : ℕ) → Dec (room < 4096) → (s : Result UploadStep UploadError) × (step_told s ≡ said (close_step m room))
 unfolding said step_told
-close_told m room (yes h) = (upload.OutputTooShort, sym (ap said (close_20 m room h)))
+close_told m room (yes h) = ((Err upload_error.OutputTooShort), sym (ap said (close_20 m room h)))
 close_told m room (no h) =
     let long : 4096 ≤ room = omega arith in
     let x = asked_told m.steps m.area (length (moves_at m.steps m.crc (held m)).bytes) in

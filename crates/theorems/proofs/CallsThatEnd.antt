@@ -24,7 +24,6 @@ use Rattle.mock_table.specs.Ways.{moved_by, tells_storage}
 use Rattle.mock_table.specs.Table.{range_of, range_rule, length_rule, sector_turn, reply_turn, code_turn, read_io_turn, write_turn, status_turn, read_row, read_turn}
 use Rattle.mock_table.specs.declared.session.CommandState.{CommandState}
 use Rattle.mock_table.specs.declared.session.CommandState.TheVariants.{None, IO, Status}
-use Rattle.mock_table.specs.declared.session.LastReset.{LastReset}
 use Rattle.mock_table.specs.declared.session.Session.{Session}
 use Rattle.mock_table.proofs.Sane.{write_sane, read_sane}
 use Rattle.mock.specs.declared.device.MockState.{MockState}
@@ -35,9 +34,11 @@ use Rattle.mock_effects.specs.Effects.{pending_after}
 use Rattle.mock_effects.specs.Steps.{pend}
 use Rattle.mock_table.specs.declared.outcome.ReplyKind.TheVariants as reply
 use Rattle.theorems.proofs.CallsByTurn.{writes_as, reads_as}
+use Rattle.std.specs.Prelude.{Option}
+use Rattle.protocol_codes.specs.declared.ResetOpcode.{ResetOpcode}
 
 -- whatever the transaction is, a read of 13 bytes is refused or is its status: no reply is that long, and no sectors are
-module _ (v : Variety) (last : LastReset) where
+module _ (v : Variety) (last : Option ResetOpcode) where
   abbrev pub StatusRead : Turn → Type 0
   StatusRead t =
       ((number : ℕ) × (values : List ℕ) × (t ≡ refuses last number values)) ⊎ ((tag : ℕ) × (pending : status.Status) × (t ≡ done None last (effect.Reply (reply.Status tag pending))))

@@ -18,8 +18,6 @@ use Rattle.operation.specs.Record.{fresh}
 use Rattle.run_operation.specs.Run.{whole_budget}
 use Rattle.deck_block.specs.declared.Request.{Request}
 use Rattle.deck_block.specs.Reading.{read_card}
-use Rattle.deck.specs.declared.verdict.Verdict.{Verdict}
-use Rattle.deck.specs.declared.verdict.Verdict.TheVariants.{Done}
 use Rattle.deck.specs.declared.bench.Bench.{Bench}
 use Rattle.deck.specs.declared.bench.DeckStep.{DeckStep}
 use Rattle.deck.specs.Verdict.{numbered, load_told, verdict_told}
@@ -35,6 +33,10 @@ use Rattle.theorems.specs.Chunks.{Deals}
 use Rattle.theorems.proofs.AnyChunks.{any_chunks}
 use Rattle.theorems.proofs.ByRequest.{by_request}
 use Rattle.theorems.proofs.NeverShort.{refusal_not, fresh_never_short}
+use Rattle.std.specs.Prelude.{Result}
+use Rattle.operation_finish.specs.declared.UsbReply.{UsbReply}
+use Rattle.deck.specs.declared.verdict.RefusalNumber.{RefusalNumber}
+use Rattle.std.specs.declared.result.Result.TheVariants.{Ok}
 
 -- what is told of a run, and of an upload's
 numbered_not : (t : Told Reply) → NotShort t → NotShort (numbered t)
@@ -70,10 +72,10 @@ module _ (h : Head) where
 
 -- any caller of the bench's step, whatever the bench is
 pub step_never_short : (r : DeckStep) (flash store : List ℕ) (bench : Bench) (block before held : List ℕ) → StepMeets r flash store bench block before held
-    → (s : ShortTransfer) → r.verdict ≡ Done (usb.Sectors (Short s)) → ⊥
+    → (s : ShortTransfer) → r.verdict ≡ Ok (usb.Sectors (Short s)) → ⊥
 unfolding verdict_told reply_given
 step_never_short r flash store bench block before held m s e =
-    block_never_short (head bench.device before held) (next_tag bench) block s (sym m.tells ∙ ap (λ (v : Verdict). verdict_told v r.beside) e)
+    block_never_short (head bench.device before held) (next_tag bench) block s (sym m.tells ∙ ap (λ (v : Result UsbReply RefusalNumber). verdict_told v r.beside) e)
 
 -- the lines of a deck are made of what is told of its blocks
 next_text : (block : List ℕ) (t : Table) (is_over : Bool) → t.deck.is_over ≡ is_over

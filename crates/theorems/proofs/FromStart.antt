@@ -20,7 +20,6 @@ use Rattle.mock_base.specs.Flash.{flash_sectors}
 use Rattle.mock_table.specs.Turn.{Turn, session, done}
 use Rattle.mock_table.specs.Table.{start_turn, write_row}
 use Rattle.mock_table.specs.declared.session.CommandState.TheVariants.{None, IO, Status}
-use Rattle.mock_table.specs.declared.session.LastReset.{LastReset}
 use Rattle.mock_table.specs.declared.outcome.Effect.{Effect}
 use Rattle.mock_table.specs.declared.outcome.Effect.TheVariants.{Nothing}
 use Rattle.mock_effects.specs.Effects.{flash_after, pending_after}
@@ -41,6 +40,8 @@ use Rattle.theorems.proofs.CallsByTurn.{as_call, applied, writes_as}
 use Rattle.theorems.proofs.FromStatus.{answered_whole}
 use Rattle.theorems.specs.Runs.{operation_run, rearmed}
 use Rattle.protocol.specs.CommandBytes.{BlockFits}
+use Rattle.std.specs.Prelude.{Option}
+use Rattle.protocol_codes.specs.declared.ResetOpcode.{ResetOpcode}
 
 -- the state once its command is out and the device awaits its data
 abbrev pub awaiting : Kind → CommandBlock → MockState → List ℕ → List ℕ → UsbState
@@ -84,7 +85,7 @@ module _ (k : Kind) (c : CommandBlock) (v : Variety) (device : MockState) (flash
     refused_at_once number values e = ap (λ (r : Ran Reply UsbState). r.end) (refused_at_once_whole number values e)
 
   -- a command with no data that is done at once, and whose effect does not fail
-  pub done_at_once_whole : (pending : status.Status) (reset : LastReset) (effect : Effect) → c.transfer_length ≡ 0
+  pub done_at_once_whole : (pending : status.Status) (reset : Option ResetOpcode) (effect : Effect) → c.transfer_length ≡ 0
       → start_turn device.variety block (given c) device.last_reset sectors ≡ done (Status c pending) reset effect
       → pending_after effect (command_out (fresh k c)) flash ≡ SUCCESS
       → operation_run k c device flash bytes store
@@ -100,7 +101,7 @@ module _ (k : Kind) (c : CommandBlock) (v : Variety) (device : MockState) (flash
       ∙ ap (counted 1) (answered_whole (commanded_by t) c pending sectors (ap flash_sectors (long_left device flash (command_out (fresh k c)) (applied t (command_out (fresh k c)) flash) (flash_after effect (command_out (fresh k c)) flash) (taken t first)) ∙ stands.legal)
       here waits refl fits.tag 1)
 
-  pub done_at_once : (pending : status.Status) (reset : LastReset) (effect : Effect) → c.transfer_length ≡ 0
+  pub done_at_once : (pending : status.Status) (reset : Option ResetOpcode) (effect : Effect) → c.transfer_length ≡ 0
       → start_turn device.variety block (given c) device.last_reset sectors ≡ done (Status c pending) reset effect
       → pending_after effect (command_out (fresh k c)) flash ≡ SUCCESS
       → (operation_run k c device flash bytes store).end ≡ tells (by_status pending (reply_of k c.transfer_length 0 (replicate 16 0)))

@@ -13,9 +13,7 @@ use Rattle.promise.specs.Bytes.{front}
 use Rattle.promise.specs.Does.{Does, does, said, sent, after}
 use Rattle.promise.specs.Run.{end_told, follow, runs}
 use Rattle.maskrom_transfer.specs.Moves.{moves_at}
-use Rattle.maskrom.specs.declared.UploadStep.{UploadStep}
 use Rattle.maskrom.specs.declared.UploadStep.TheVariants as upload
-use Rattle.maskrom.specs.declared.UploadStart.TheVariants as start
 use Rattle.maskrom.specs.declared.WholeUpload.{WholeUpload}
 use Rattle.maskrom.specs.declared.WholeStart.{WholeStart}
 use Rattle.maskrom.specs.Answers.{longest, too_long, Asks, writes, finish, step_told, start_told}
@@ -32,15 +30,20 @@ use Rattle.theorems.proofs.WholeSends.{whole_goes}
 use Rattle.theorems.proofs.AnyCut.{started}
 use Rattle.theorems.proofs.CallsAnswered.{asked_told}
 use Rattle.theorems.proofs.PartsOfOneSize.{step_number}
+use Rattle.std.specs.Prelude.{Result}
+use Rattle.maskrom.specs.declared.UploadStep.{UploadStep}
+use Rattle.maskrom.specs.declared.UploadError.{UploadError}
+use Rattle.std.specs.declared.result.Result.TheVariants.{Ok, Err}
+use Rattle.maskrom.specs.declared.UploadError.TheVariants as upload_error
 
 -- a call of `step` on a whole upload has an answer, at every record
 pub whole_told : (u : WholeUpload) (image : List ℕ) (room : ℕ) → Dec (room < 4096) → Dec (length image ≡ u.length)
-    → (s : UploadStep) × (step_told s ≡ said (whole_step u image room))
+    → (s : Result UploadStep UploadError) × (step_told s ≡ said (whole_step u image room))
 unfolding said step_told
-whole_told u image room (yes h) d = (upload.OutputTooShort, sym (ap said (whole_20 u image room h)))
+whole_told u image room (yes h) d = ((Err upload_error.OutputTooShort), sym (ap said (whole_20 u image room h)))
 whole_told u image room (no h) (no e) =
     let long : 4096 ≤ room = omega arith in
-    (upload.ImageDiffers, sym (ap said (whole_27 u image room long e)))
+    ((Err upload_error.ImageDiffers), sym (ap said (whole_27 u image room long e)))
 whole_told u image room (no h) (yes e) =
     let long : 4096 ≤ room = omega arith in
     let w = take (most u.steps) (drop u.taken image) in
@@ -70,13 +73,13 @@ module _ (area : ℕ) (image : List ℕ) where
     unfolding onward step_shows asked_seen follow on_turn said sent after step_told step_drive step_trace
     by_asked (writes c) bs next e f =
         let now = front bs out in
-        let r = stepped_with (upload.WriteControl c) next in
+        let r = stepped_with (Ok (upload.WriteControl c)) next in
         let meets : StepMeets r u image out now = record { tells = sym (ap said e); next = sym (ap (after u) e); leaves = sym (ap (λ (t : Told (Does Asks WholeUpload)). front (sent t) out) e) } in
         subst (WholeFinishes area image) (append_assoc ts (seen c now ∷ []) (step_trace (step_of image) k next now))
         (more next now (ts ++ (seen c now ∷ [])) (caller.stepping u ts out now r (writes c) d meets refl) f)
     by_asked finish bs next e f =
         let now = front bs out in
-        let r = stepped_with upload.Finished next in
+        let r = stepped_with (Ok upload.Finished) next in
         let meets : StepMeets r u image out now = record { tells = sym (ap said e); next = sym (ap (after u) e); leaves = sym (ap (λ (t : Told (Does Asks WholeUpload)). front (sent t) out) e) } in
         subst (WholeFinishes area image) (sym (append-nil ts)) (whole_finishes u ts out now r d meets refl)
 
@@ -102,7 +105,7 @@ module _ (area : ℕ) (image : List ℕ) where
       let l : length image ≤ longest = omega arith in
       let s = started area image l in
       let u = fresh_whole area (length image) in
-      let r : WholeStart = record { start = start.Started; upload = u } in
+      let r : WholeStart = record { start = (Ok tt); upload = u } in
       let meets : StartMeets r area image = record { tells = sym (ap said s); next = sym (ap (after (fresh_whole area 0)) s) } in
       let e' : (step_drive (step_of image) budget u out).number ≡ 0 = rw s at e in
       subst (WholeFinishes area image) (ap (λ (t : Told (Does Unit WholeUpload)). on_start_trace t image out budget) (sym s))

@@ -9,7 +9,6 @@ use Rattle.promise.specs.Told.{Told, given, refused}
 use Rattle.promise.specs.Bytes.{front}
 use Rattle.promise.specs.Does.{Does, does, said, sent, after}
 use Rattle.maskrom.specs.declared.MaskRomOperation.{MaskRomOperation}
-use Rattle.maskrom.specs.declared.PartStep.{PartStep}
 use Rattle.maskrom.specs.declared.PartStep.TheVariants as part
 use Rattle.maskrom.specs.declared.UploadStep.TheVariants as upload
 use Rattle.maskrom.specs.Answers.{longest, Handed, took, filled, Asks, writes, finish, part_told, step_told}
@@ -20,6 +19,10 @@ use Rattle.maskrom.specs.Calls.{PartMeets, CloseMeets}
 use Rattle.theorems.specs.AnyCaller.{taken_by, handed_seen, asked_seen, Reached, starts, hands, closes, Finishes, finishes}
 use Rattle.theorems.proofs.AnyCut.{any_cut}
 use Rattle.theorems.proofs.OneCall.{taken_is}
+use Rattle.std.specs.Prelude.{Result}
+use Rattle.maskrom.specs.declared.PartStep.{PartStep}
+use Rattle.maskrom.specs.declared.PartError.{PartError}
+use Rattle.std.specs.declared.result.Result.TheVariants.{Ok}
 
 -- a driving that ended was neither refused nor left unended
 stopped_not : {C : Type 0} (n : ℕ) (us : List Transfer) → stopped n ≡ ended us → C
@@ -47,14 +50,14 @@ module _ (area : ℕ) (image : List ℕ) where
     unfolding on_step said sent after step_told asked_seen
     by_asked (writes c) bs next e f =
         let now = front bs out in
-        let r = closed_with (upload.WriteControl c) next in
+        let r = closed_with (Ok (upload.WriteControl c)) next in
         let meets : CloseMeets r m out now = record { tells = sym (ap said e); next = sym (ap (after m) e); leaves = sym (ap (λ (t : Told (Does Asks MaskRomOperation)). front (sent t) out) e) } in
         let first = sent_first (seen c now) (step_through close_step k next now) us f in
         subst (Finishes area image) (append_assoc ts (seen c now ∷ []) first.0 ∙ ap (λ (x : List Transfer). ts ++ x) (sym first.2))
         (more next now (ts ++ (seen c now ∷ [])) first.0 (closes m [] ts out now r (writes c) d refl meets refl) first.1)
     by_asked finish bs next e f =
         let now = front bs out in
-        let r = closed_with upload.Finished next in
+        let r = closed_with (Ok upload.Finished) next in
         let meets : CloseMeets r m out now = record { tells = sym (ap said e); next = sym (ap (after m) e); leaves = sym (ap (λ (t : Told (Does Asks MaskRomOperation)). front (sent t) out) e) } in
         subst (Finishes area image) (sym (append-nil ts) ∙ ap (λ (x : List Transfer). ts ++ x) (same_ended [] us f)) (finishes m [] ts out now r d meets refl)
 
@@ -86,7 +89,7 @@ module _ (area : ℕ) (image : List ℕ) where
       again m (z ∷ zs) out ts us d e = more m (z ∷ zs) out ts us d e
 
       module _ (m : MaskRomOperation) (xs out : List ℕ) (ts us : List Transfer) (d : Reached area image m (xs ++ qs) ts) where
-        arrived : (s : PartStep) (a : Handed) (now : List ℕ) (next : MaskRomOperation) → part_told s ≡ given a → PartMeets (parted s next) m xs out now
+        arrived : (s : Result PartStep PartError) (a : Handed) (now : List ℕ) (next : MaskRomOperation) → part_told s ≡ given a → PartMeets (parted s next) m xs out now
             → Reached area image next (drop (taken_by a) xs ++ qs) (ts ++ handed_seen a now)
         arrived s a now next g meets =
             let few : taken_by a ≤ length xs = omega (arith, taken_is m xs out now (parted s next) meets a g) in
@@ -99,15 +102,15 @@ module _ (area : ℕ) (image : List ℕ) where
         unfolding on_part said sent after part_told handed_seen taken_by
         by_handed (took n) bs next e f =
             let now = front bs out in
-            let meets : PartMeets (parted (part.Taken n) next) m xs out now = record { tells = sym (ap said e); next = sym (ap (after m) e); leaves = sym (ap (λ (t : Told (Does Handed MaskRomOperation)). front (sent t) out) e) } in
+            let meets : PartMeets (parted (Ok (part.Taken n)) next) m xs out now = record { tells = sym (ap said e); next = sym (ap (after m) e); leaves = sym (ap (λ (t : Told (Does Handed MaskRomOperation)). front (sent t) out) e) } in
             again next (drop n xs) now ts us
-            (subst (λ (l : List Transfer). Reached area image next (drop n xs ++ qs) l) (append-nil ts) (arrived (part.Taken n) (took n) now next refl meets)) f
+            (subst (λ (l : List Transfer). Reached area image next (drop n xs ++ qs) l) (append-nil ts) (arrived (Ok (part.Taken n)) (took n) now next refl meets)) f
         by_handed (filled n c) bs next e f =
             let now = front bs out in
-            let meets : PartMeets (parted (part.WriteControl n c) next) m xs out now = record { tells = sym (ap said e); next = sym (ap (after m) e); leaves = sym (ap (λ (t : Told (Does Handed MaskRomOperation)). front (sent t) out) e) } in
+            let meets : PartMeets (parted (Ok (part.WriteControl n c)) next) m xs out now = record { tells = sym (ap said e); next = sym (ap (after m) e); leaves = sym (ap (λ (t : Told (Does Handed MaskRomOperation)). front (sent t) out) e) } in
             let first = sent_first (seen c now) (or_again (drop n xs) (go next now) (hand k next (drop n xs) now go)) us f in
             subst (Finishes area image) (append_assoc ts (seen c now ∷ []) first.0 ∙ ap (λ (x : List Transfer). ts ++ x) (sym first.2))
-            (again next (drop n xs) now (ts ++ (seen c now ∷ [])) first.0 (arrived (part.WriteControl n c) (filled n c) now next refl meets) first.1)
+            (again next (drop n xs) now (ts ++ (seen c now ∷ [])) first.0 (arrived (Ok (part.WriteControl n c)) (filled n c) now next refl meets) first.1)
 
         by_part : (t : Told (Does Handed MaskRomOperation)) → part_step m xs (length out) ≡ t
             → on_part (said t) xs (front (sent t) out) (λ rest. or_again rest (go (after m t) (front (sent t) out)) (hand k (after m t) rest (front (sent t) out) go)) ≡ ended us

@@ -30,7 +30,6 @@ use Rattle.operation_finish.proofs.Transfers.{short_only}
 use Rattle.operation_finish.proofs.SectorFinish.{finish_sectors}
 use Rattle.operation_finish.specs.Reply.{reply_given, finish_told}
 use Rattle.operation_finish.specs.declared.UsbReply.TheVariants as usb
-use Rattle.operation_finish.specs.declared.FinishAnswer.TheVariants.{Replied}
 use Rattle.operation_finish.specs.declared.Beside.{Beside}
 use Rattle.operation.specs.declared.steps.Operation.{Operation}
 use Rattle.operation.specs.declared.steps.Operation.TheVariants as operation
@@ -52,20 +51,21 @@ use Rattle.mock_effects.specs.Steps.{read_step_of, read_step_by}
 use Rattle.mock.specs.declared.device.MockState.{MockState}
 use Rattle.mock.specs.declared.device.MockStep.{MockStep}
 use Rattle.mock.specs.Device.{session_of, read_bulk, MockMeets}
-use Rattle.run_turn.specs.declared.Stop.{Stop}
-use Rattle.run_turn.specs.declared.Stop.TheVariants as stop
-use Rattle.run_turn.specs.declared.Turn.{Turn}
-use Rattle.run_turn.specs.declared.Turn.TheVariants as turn
 use Rattle.run_turn.specs.declared.UsbTurned.{UsbTurned}
 use Rattle.run_turn.specs.Turn.{UsbState, usb_state, onward, buffer_for, gives, received, got, transfers, after, usb_turn}
 use Rattle.run_turn.specs.Answers.{stop_told, turn_told, TurnMeets}
-use Rattle.run_operation.specs.declared.RunAnswer.{RunAnswer}
-use Rattle.run_operation.specs.declared.RunAnswer.TheVariants.{Ended}
 use Rattle.run_operation.specs.declared.UsbRun.{UsbRun}
 use Rattle.run_operation.specs.Run.{run_rules, unstarted, usb_run}
 use Rattle.run_operation.specs.Answers.{answer_end, RunMeets}
 use Rattle.theorems.specs.OnStandIns.{NothingLeft, OnStandIns, begun, by_turn, by_run}
 use Rattle.theorems.proofs.CallsThatEnd.{StatusRead, row_read}
+use Rattle.std.specs.declared.result.Result.TheVariants.{Ok}
+use Rattle.std.specs.declared.ops.ControlFlow.{ControlFlow}
+use Rattle.std.specs.declared.ops.ControlFlow.TheVariants.{Continue, Break}
+use Rattle.std.specs.Prelude.{Result}
+use Rattle.run_operation.specs.declared.RunError.{RunError}
+use Rattle.operation_finish.specs.declared.UsbReply.{UsbReply}
+use Rattle.run_turn.specs.declared.StopError.{StopError}
 
 -- a refusal is no transfer
 pub refusal_not : (n : ℕ) (values : List ℕ) → NotShort (refused n values)
@@ -266,14 +266,14 @@ checked_run s store budget left =
     either_way Runs (unstarted s) (run_rules s store) (runs usb_turn budget s) (λ n values. (refusal_not n values, left)) (λ met. turns_run budget s left)
 
 -- what a turn hands back, by its answer
-turn_left : (x : Turn) (b : Beside) (s : UsbState) → Turns (turn_told x b s) → Left s
+turn_left : (x : ControlFlow (Result UsbReply StopError) Unit) (b : Beside) (s : UsbState) → Turns (turn_told x b s) → Left s
 unfolding turn_told
-turn_left turn.Goes b s turns = turns
-turn_left (turn.Ends stop) b s turns = turns.1
+turn_left (Continue u) b s turns = turns
+turn_left (Break stop) b s turns = turns.1
 
-turn_not : (x : Turn) (b : Beside) (s : UsbState) (stop : Stop) → x ≡ turn.Ends stop → Turns (turn_told x b s) → NotShort (stop_told stop b)
+turn_not : (x : ControlFlow (Result UsbReply StopError) Unit) (b : Beside) (s : UsbState) (stop : Result UsbReply StopError) → x ≡ Break stop → Turns (turn_told x b s) → NotShort (stop_told stop b)
 unfolding turn_told
-turn_not x b s stop e turns = (subst (λ (y : Turn). Turns (turn_told y b s)) e turns).0
+turn_not x b s stop e turns = (subst (λ (y : ControlFlow (Result UsbReply StopError) Unit). Turns (turn_told y b s)) e turns).0
 
 -- any operation that only stand-ins have answered
 stands_left : (start op : UsbOperation) → NothingLeft start.command_bytes → OnStandIns start op → NothingLeft op.command_bytes
@@ -292,18 +292,18 @@ module _ (k : Kind) (c : CommandBlock) (op : UsbOperation) (on : OnStandIns (fre
   its_left = stands_left (fresh k c) op fresh_left on
 
   pub turn_never_short : (r : UsbTurned) → TurnMeets r after leaves (usb_turn (usb_state op device flash bytes)) → (s : ShortTransfer)
-      → r.turn ≡ turn.Ends (stop.Finished (Replied (usb.Sectors (Short s)))) → ⊥
+      → r.turn ≡ Break (Ok (usb.Sectors (Short s))) → ⊥
   unfolding stop_told finish_told reply_given
   turn_never_short r m s e =
-      turn_not r.turn r.beside _ (stop.Finished (Replied (usb.Sectors (Short s)))) e
+      turn_not r.turn r.beside _ (Ok (usb.Sectors (Short s))) e
       (subst Turns (sym m.tells) (turn_turns (usb_state op device flash bytes) its_left)) s refl
 
   pub run_never_short : (store budget : ℕ) (r : UsbRun) → RunMeets r after leaves (usb_run (usb_state op device flash bytes) store budget) → (s : ShortTransfer)
-      → r.answer ≡ Ended (stop.Finished (Replied (usb.Sectors (Short s)))) → ⊥
+      → r.answer ≡ Ok (usb.Sectors (Short s)) → ⊥
   unfolding answer_end stop_told finish_told reply_given end_told
   run_never_short store budget r m s e =
       (checked_run (usb_state op device flash bytes) store budget its_left).0 s
-      (ap end_told (sym m.tells ∙ ap (λ (a : RunAnswer). answer_end a r.beside) e))
+      (ap end_told (sym m.tells ∙ ap (λ (a : Result UsbReply RunError). answer_end a r.beside) e))
 
 -- the same of what a run is by its definition, at its start
 pub fresh_never_short : (k : Kind) (c : CommandBlock) (device : MockState) (flash bytes : List ℕ) (store budget : ℕ)

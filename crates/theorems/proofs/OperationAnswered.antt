@@ -38,16 +38,22 @@ use Rattle.operation.specs.declared.steps.IOBytes.TheVariants as io
 use Rattle.operation.specs.declared.steps.Asked.{Asked}
 use Rattle.operation.specs.declared.steps.Asked.TheVariants as asked
 use Rattle.operation.specs.declared.steps.UsbOperation.{UsbOperation}
-use Rattle.operation.specs.declared.steps.UsbStep.{UsbStep}
 use Rattle.operation.specs.declared.steps.UsbStep.TheVariants as step
 use Rattle.operation.specs.declared.steps.UsbStepped.{UsbStepped}
-use Rattle.operation.specs.declared.giving.Giving.{Giving}
-use Rattle.operation.specs.declared.giving.Giving.TheVariants as giving
 use Rattle.operation.specs.declared.giving.UsbGiven.{UsbGiven}
+use Rattle.operation.specs.Code.{finished_by}
+use Rattle.operation.proofs.Cases.{passed_on}
 use Rattle.operation.specs.Record.{io_of, transfer_length, inband_length}
 use Rattle.operation.specs.Step.{Step, finished_told, command_step, io_step, status_step, finish_step, step_of, usb_step, step_told, beside_asks, beside_at, StepMeets}
 use Rattle.operation.specs.Give.{Give, nothing_asked, asks_for, owed, received, give_of, usb_give, giving_told, GiveMeets}
 use Rattle.operation.specs.Made.{Made, stepped, gave}
+use Rattle.std.specs.Prelude.{Result}
+use Rattle.operation.specs.declared.steps.UsbStep.{UsbStep}
+use Rattle.operation.specs.declared.steps.StepError.{StepError}
+use Rattle.std.specs.declared.result.Result.TheVariants.{Ok, Err}
+use Rattle.operation.specs.declared.steps.StepError.TheVariants as step_error
+use Rattle.operation.specs.declared.giving.GivingError.{GivingError}
+use Rattle.operation.specs.declared.giving.GivingError.TheVariants as giving_error
 
 -- the finish
 
@@ -129,31 +135,33 @@ module _ (k : Kind) (tag l : ℕ) (status inband : List ℕ) where
 -- a step
 
 abbrev StepAnswered : Step → Type 0
-StepAnswered s = (x : UsbStep) × (step_told x (beside_at s.told) ≡ s.told)
+StepAnswered s = (x : Result UsbStep StepError) × (step_told x (beside_at s.told) ≡ s.told)
 
 beside_finished : (t : Told Reply) → beside_at (finished_told t) ≡ beside_of t
 unfolding beside_at beside_asks finished_told and_then
 beside_finished (given reply) = refl
 beside_finished (refused n values) = refl
 
-finished_answered : (t : Told Reply) → FinishAnswered t → (x : UsbStep) × (step_told x (beside_at (finished_told t)) ≡ finished_told t)
+finished_answered : (t : Told Reply) → FinishAnswered t → (x : Result UsbStep StepError) × (step_told x (beside_at (finished_told t)) ≡ finished_told t)
 unfolding step_told
 finished_answered t a =
-    let same : beside_at (finished_told t) ≡ a.0.beside = beside_finished t ∙ sym a.1.beside in
-    (step.Finished a.0.answer, ap (λ (b : Beside). finished_told (finish_told a.0.answer b)) same ∙ ap finished_told a.1.tells)
+    let same : beside_at (finished_told t) ≡ a.0.beside = beside_finished t ∙ sym a.1.beside in (
+      finished_by a.0.answer,
+      ap (λ (b : Beside). step_told (finished_by a.0.answer) b) same ∙ passed_on a.0.answer a.0.beside ∙ ap finished_told a.1.tells,
+    )
 
 module _ (op : UsbOperation) (lent room : ℕ) where
   data_answered : (at : IOBytes) → StepAnswered (io_step at op lent)
   unfolding io_step or_refuse step_told beside_at beside_asks
-  data_answered io.Inband = (step.ReadInband (inband_length op), refl)
-  data_answered io.Read = by_test StepAnswered (ltb lent (transfer_length op)) (λ e. (step.DataDiffers, refl)) (λ e. (step.ReadData (transfer_length op), refl))
-  data_answered io.Write = by_test StepAnswered (ltb lent (transfer_length op)) (λ e. (step.DataDiffers, refl)) (λ e. (step.WriteData (transfer_length op), refl))
+  data_answered io.Inband = (Ok (step.ReadInband (inband_length op)), refl)
+  data_answered io.Read = by_test StepAnswered (ltb lent (transfer_length op)) (λ e. ((Err step_error.DataDiffers), refl)) (λ e. (Ok (step.ReadData (transfer_length op)), refl))
+  data_answered io.Write = by_test StepAnswered (ltb lent (transfer_length op)) (λ e. ((Err step_error.DataDiffers), refl)) (λ e. (Ok (step.WriteData (transfer_length op)), refl))
 
   answered_at : (here : Operation) → StepAnswered (step_of here op lent room)
   unfolding step_of command_step status_step finish_step or_refuse step_told beside_at beside_asks
-  answered_at operation.CommandBlock = by_test StepAnswered (ltb room 31) (λ e. (step.OutputTooShort, refl)) (λ e. (step.WriteCommand, refl))
+  answered_at operation.CommandBlock = by_test StepAnswered (ltb room 31) (λ e. ((Err step_error.OutputTooShort), refl)) (λ e. ((Ok step.WriteCommand), refl))
   answered_at operation.IO = data_answered (io_of op.kind)
-  answered_at operation.CommandStatus = (step.ReadStatus 13, refl)
+  answered_at operation.CommandStatus = (Ok (step.ReadStatus 13), refl)
   answered_at operation.Finish =
       finished_answered (finishes op.kind op.command.tag (transfer_length op) op.command_bytes op.«data»)
       (finish_answered op.kind op.command.tag (transfer_length op) op.command_bytes op.«data»)
@@ -172,21 +180,21 @@ step_answered op lent before =
 -- a giving
 
 abbrev GiveAnswered : Give → Type 0
-GiveAnswered g = (x : Giving) × (giving_told x ≡ g.told)
+GiveAnswered g = (x : Result Unit GivingError) × (giving_told x ≡ g.told)
 
 received_answered : (a : Asked) (op : UsbOperation) (bytes : List ℕ) → GiveAnswered (received a op bytes)
 unfolding received giving_told
-received_answered asked.Nothing op bytes = (giving.Taken, refl)
-received_answered asked.Inband op bytes = (giving.Taken, refl)
-received_answered asked.Sectors op bytes = (giving.Taken, refl)
-received_answered asked.Status op bytes = (giving.Taken, refl)
+received_answered asked.Nothing op bytes = ((Ok tt), refl)
+received_answered asked.Inband op bytes = ((Ok tt), refl)
+received_answered asked.Sectors op bytes = ((Ok tt), refl)
+received_answered asked.Status op bytes = ((Ok tt), refl)
 
 given_answered : (op : UsbOperation) (bytes : List ℕ) (lent : ℕ) → GiveAnswered (usb_give op bytes lent)
 unfolding give_of or_refuse giving_told
 given_answered op bytes lent =
-    by_test GiveAnswered (nothing_asked op.asked) (λ e. (giving.NotAsked, refl))
-    (λ e. by_test GiveAnswered (ltb (asks_for op.asked op) (length bytes)) (λ f. (giving.TooMany, refl))
-    (λ f. by_test GiveAnswered (ltb lent (owed op.asked op)) (λ g. (giving.DataDiffers, refl)) (λ g. received_answered op.asked op bytes)))
+    by_test GiveAnswered (nothing_asked op.asked) (λ e. ((Err giving_error.NotAsked), refl))
+    (λ e. by_test GiveAnswered (ltb (asks_for op.asked op) (length bytes)) (λ f. ((Err giving_error.TooMany), refl))
+    (λ f. by_test GiveAnswered (ltb lent (owed op.asked op)) (λ g. ((Err giving_error.DataDiffers), refl)) (λ g. received_answered op.asked op bytes)))
 
 -- and a call of `give`
 pub give_answered : (op : UsbOperation) (bytes before : List ℕ)

@@ -43,8 +43,6 @@ use Rattle.mock_table.specs.Turn.{refuses, done, has_code, is_erase, is_in, is_o
 use Rattle.mock_table.specs.Ways.{stored_by, moved_by, splits, switches, switched, tells_storage}
 use Rattle.mock_table.specs.Table.{range_of, sector_turn, stored_reset, erase_rules, erase_turn, zero_length_turn, start_turn, write_io_turn, reply_turn, code_turn, read_io_turn}
 use Rattle.mock_table.specs.declared.session.CommandState.TheVariants.{Status}
-use Rattle.mock_table.specs.declared.session.LastReset.{LastReset}
-use Rattle.mock_table.specs.declared.session.LastReset.TheVariants as reset
 use Rattle.mock_table.specs.declared.outcome.Effect.TheVariants as effect
 use Rattle.mock_table.specs.declared.outcome.ReplyKind.{ReplyKind}
 use Rattle.mock_table.specs.declared.outcome.ReplyKind.TheVariants as reply
@@ -61,13 +59,15 @@ use Rattle.theorems.proofs.FromStart.{refused_at_once, done_at_once}
 use Rattle.theorems.specs.Runs.{operation_run}
 use Rattle.theorems.proofs.FromData.{inband_refused, inband_answered, read_refused, read_answered, write_refused, write_answered}
 use Rattle.protocol.specs.CommandBytes.{BlockFits}
+use Rattle.std.specs.Prelude.{Option}
+use Rattle.std.specs.declared.option.Option.TheVariants.{Some}
 
 pub default_sized : Sized default_config
 unfolding default_config
 default_sized = record { chip = refl; id = refl; capability = refl; extra = refl }
 
 -- sectors, by whether the range fits
-module _ (v : Variety) (last : LastReset) (c : CommandBlock) (direction : Direction) (sectors : ℕ) where
+module _ (v : Variety) (last : Option ResetOpcode) (c : CommandBlock) (direction : Direction) (sectors : ℕ) where
   abbrev size : ℕ
   size = c.cd_length * sector_size
 
@@ -174,7 +174,7 @@ module _ (v : Variety) (device : MockState) (flash bytes : List ℕ) (store sect
   unfolding sector_data start_turn zero_length_turn stored_reset is_erase has_code reply_by by_status pending_after
   reset_ends opcode =
       let c = reset_command tag opcode in
-      done_at_once kind.Nothing c v device flash bytes store sectors stands (opcode_fits c.cd_code c.cd_opcode) (omega arith) SUCCESS (reset.Some opcode) effect.Nothing refl
+      done_at_once kind.Nothing c v device flash bytes store sectors stands (opcode_fits c.cd_code c.cd_opcode) (omega arith) SUCCESS (Some opcode) effect.Nothing refl
       (ap (λ (t : Told ResetOpcode). stored_reset t device.last_reset c) (reset_back opcode)) refl
 
   unknown_ends : (k : Kind) (c : CommandBlock) → BlockFits c → sector_data k c.transfer_length ≤ length bytes

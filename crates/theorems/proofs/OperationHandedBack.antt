@@ -21,8 +21,6 @@ use Rattle.operation.specs.declared.steps.Asked.TheVariants as asked
 use Rattle.operation.specs.declared.steps.UsbOperation.{UsbOperation}
 use Rattle.operation.specs.Step.{Asks, writes_command, writes_data, reads, finished, usb_step}
 use Rattle.operation.specs.Made.{Made}
-use Rattle.run_turn.specs.declared.Turn.{Turn}
-use Rattle.run_turn.specs.declared.Turn.TheVariants as turn
 use Rattle.run_turn.specs.declared.UsbTurned.{UsbTurned}
 use Rattle.run_turn.specs.Turn.{UsbState, usb_state, onward, buffer_for, landed, gives, received, transfers, is_write, lent_to, usb_turn}
 use Rattle.run_turn.specs.Answers.{turn_told, LentMeets}
@@ -32,16 +30,21 @@ use Rattle.run_operation.specs.Answers.{RunMeets}
 use Rattle.theorems.proofs.OperationAnswered.{step_made, give_made}
 use Rattle.theorems.proofs.CommandsAreBytes.{made_goes_out_as_bytes}
 use Rattle.theorems.proofs.OperationMakes.{turn_makes, run_makes}
+use Rattle.std.specs.declared.ops.ControlFlow.{ControlFlow}
+use Rattle.std.specs.declared.ops.ControlFlow.TheVariants.{Continue, Break}
+use Rattle.std.specs.Prelude.{Result}
+use Rattle.operation_finish.specs.declared.UsbReply.{UsbReply}
+use Rattle.run_turn.specs.declared.StopError.{StopError}
 
 -- what holds of the state that a turn leaves, whether it is the last or not
 abbrev Leaves : (UsbState → Type 0) → Turned Reply UsbState → Type 0
 Leaves P (ends told s) = P s
 Leaves P (goes s) = P s
 
-left_by_turn : (P : UsbState → Type 0) (t : Turn) (b : Beside) (s : UsbState) → Leaves P (turn_told t b s) → P s
+left_by_turn : (P : UsbState → Type 0) (t : ControlFlow (Result UsbReply StopError) Unit) (b : Beside) (s : UsbState) → Leaves P (turn_told t b s) → P s
 unfolding turn_told
-left_by_turn P turn.Goes b s p = p
-left_by_turn P (turn.Ends stop) b s p = p
+left_by_turn P (Continue u) b s p = p
+left_by_turn P (Break stop) b s p = p
 
 module _ (start : UsbOperation) where
   abbrev Stays : UsbState → Type 0

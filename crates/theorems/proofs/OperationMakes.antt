@@ -32,8 +32,6 @@ use Rattle.operation.specs.Step.{Asks, writes_data, Step, does, stays, data_rule
 use Rattle.operation.specs.Step as step
 use Rattle.operation.proofs.Laws.{give_keeps}
 use Rattle.operation_finish.specs.declared.Beside.{Beside}
-use Rattle.run_turn.specs.declared.Turn.{Turn}
-use Rattle.run_turn.specs.declared.Turn.TheVariants as turn
 use Rattle.run_turn.specs.declared.UsbTurned.{UsbTurned}
 use Rattle.run_turn.specs.Turn.{UsbState, usb_state, is_write, onward, wrote, buffer_for, landed, giving, gives, received, got, transfers, after, lent_to, usb_turn}
 use Rattle.run_turn.specs.Answers.{turn_told, LentMeets}
@@ -41,6 +39,11 @@ use Rattle.run_operation.specs.declared.UsbRun.{UsbRun}
 use Rattle.run_operation.specs.Run.{run_rules, unstarted, usb_run}
 use Rattle.run_operation.specs.Answers.{RunMeets}
 use Rattle.theorems.proofs.CommandsAreBytes.{are_take}
+use Rattle.std.specs.declared.ops.ControlFlow.{ControlFlow}
+use Rattle.std.specs.declared.ops.ControlFlow.TheVariants.{Continue, Break}
+use Rattle.std.specs.Prelude.{Result}
+use Rattle.operation_finish.specs.declared.UsbReply.{UsbReply}
+use Rattle.run_turn.specs.declared.StopError.{StopError}
 
 -- an operation at such a device: its command goes out as bytes, and so does the data of a write
 record Fit (v : Variety) (config : MockDeviceConfig) (n : ℕ) (s : UsbState) : Type 0 where
@@ -181,10 +184,10 @@ module _ (v : Variety) (config : MockDeviceConfig) (n : ℕ) where
   runs_fit zero s f = f
   runs_fit (suc budget) s f = follow_fit (usb_turn s) (λ next. runs usb_turn budget next) (turn_fit s f) (λ next g. runs_fit budget next g)
 
-  turned_fit : (t : Turn) (b : Beside) (s : UsbState) → Turns (turn_told t b s) → Fit v config n s
+  turned_fit : (t : ControlFlow (Result UsbReply StopError) Unit) (b : Beside) (s : UsbState) → Turns (turn_told t b s) → Fit v config n s
   unfolding turn_told
-  turned_fit turn.Goes b s f = f
-  turned_fit (turn.Ends stop) b s f = f
+  turned_fit (Continue u) b s f = f
+  turned_fit (Break stop) b s f = f
 
   -- over the contract of `take_turn`. What goes out is bytes, as it is for whoever has a record of these types
   pub turn_makes : (r : UsbTurned) (op : UsbOperation) (device : MockState) (flash source room left now : List ℕ) → Made v config n device

@@ -31,8 +31,6 @@ use Rattle.operation.specs.Record.{io_of, transfer_length, turned}
 use Rattle.operation.specs.Step.{Asks as UsbAsks, writes_command, writes_data, reads, finished, Step, does as stepped, stays, sector_step, command_step, io_step, status_step, finish_step, step_of, usb_step, data_rule}
 use Rattle.operation.proofs.Laws.{give_keeps}
 use Rattle.run_turn.specs.Turn.{UsbState, usb_state, lent_to, onward, buffer_for, landed, giving, gives, received, transfers, usb_turn}
-use Rattle.run_operation.specs.declared.RunAnswer.{RunAnswer}
-use Rattle.run_operation.specs.declared.RunAnswer.TheVariants.{OutOfSteps}
 use Rattle.run_operation.specs.declared.UsbRun.{UsbRun}
 use Rattle.run_operation.specs.Run.{sector_data, run_rules, whole_budget, usb_run}
 use Rattle.run_operation.specs.Answers.{answer_end, RunMeets}
@@ -41,6 +39,11 @@ use Rattle.theorems.specs.Resumed.{joined}
 use Rattle.theorems.proofs.OperationSteps.{whole_ends}
 use Rattle.theorems.proofs.NoTransactionLeft.{landed_long}
 use Rattle.theorems.proofs.CheckedRuns.{spent_met, checked_resumed, checked_whole}
+use Rattle.std.specs.Prelude.{Result}
+use Rattle.run_operation.specs.declared.RunError.{RunError}
+use Rattle.run_operation.specs.declared.RunError.TheVariants.{OutOfSteps}
+use Rattle.std.specs.declared.result.Result.TheVariants.{Err}
+use Rattle.operation_finish.specs.declared.UsbReply.{UsbReply}
 
 -- what the checks look at is as it was, and there is no less data
 record Kept (s t : UsbState) : Type 0 where
@@ -195,11 +198,11 @@ usb_kind a s store e =
     ap (λ (r : Ran Reply UsbState). r.state.operation.kind) (spent_met usb_turn (λ (t : UsbState). run_rules t store) a s e).1 ∙ (runs_kept a s).kind
 
 module _ (first second whole : UsbRun) (op : UsbOperation) (device : MockState) (flash flash₁ flash₂ flash₃ : List ℕ) (store a : ℕ)
-    (out : first.answer ≡ OutOfSteps) where
+    (out : first.answer ≡ Err OutOfSteps) where
   spent : (bytes bytes₁ : List ℕ) → RunMeets first flash₁ bytes₁ (usb_run (usb_state op device flash bytes) store a)
       → (usb_run (usb_state op device flash bytes) store a).end ≡ out_of_steps
   unfolding answer_end
-  spent bytes bytes₁ m = sym m.tells ∙ ap (λ (x : RunAnswer). answer_end x first.beside) out
+  spent bytes bytes₁ m = sym m.tells ∙ ap (λ (x : Result UsbReply RunError). answer_end x first.beside) out
 
   -- a run with the budget `all` that is the first run and then the second one
   abbrev Joins : ℕ → ℕ → List ℕ → Type 0

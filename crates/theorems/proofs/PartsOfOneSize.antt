@@ -13,9 +13,7 @@ use Rattle.promise.specs.Does.{Does, does, said, sent, after}
 use Rattle.promise.specs.Run.{end_told, Ran, follow, runs}
 use Rattle.promise.proofs.Outcome.{on_test}
 use Rattle.maskrom.specs.declared.MaskRomOperation.{MaskRomOperation}
-use Rattle.maskrom.specs.declared.PartStep.{PartStep}
 use Rattle.maskrom.specs.declared.PartStep.TheVariants as part
-use Rattle.maskrom.specs.declared.UploadStep.{UploadStep}
 use Rattle.maskrom.specs.declared.UploadStep.TheVariants as upload
 use Rattle.maskrom.specs.Answers.{Handed, took, filled, Asks, writes, finish, part_told, step_told}
 use Rattle.maskrom.specs.PartWise.{fresh, part_step, close_step}
@@ -26,26 +24,34 @@ use Rattle.maskrom.specs.Calls.{PartMeets, CloseMeets}
 use Rattle.theorems.specs.AnyCaller.{taken_by, handed_seen, asked_seen, Reached, starts, hands, closes, Finishes, finishes}
 use Rattle.theorems.specs.DriveTrace.{part_shows, step_shows, part_turn_shows, step_turn_shows, on_turn, run_shows, step_trace, on_handed_trace, part_trace}
 use Rattle.theorems.proofs.CallsAnswered.{part_told_lem, close_told}
+use Rattle.std.specs.Prelude.{Result}
+use Rattle.maskrom.specs.declared.PartStep.{PartStep}
+use Rattle.maskrom.specs.declared.PartError.{PartError}
+use Rattle.std.specs.declared.result.Result.TheVariants.{Ok, Err}
+use Rattle.maskrom.specs.declared.PartError.TheVariants as part_error
+use Rattle.maskrom.specs.declared.UploadStep.{UploadStep}
+use Rattle.maskrom.specs.declared.UploadError.{UploadError}
+use Rattle.maskrom.specs.declared.UploadError.TheVariants as upload_error
 
 nothing_long : (l : List ℕ) → length l ≡ 0 → l ≡ []
 nothing_long [] e = refl
 nothing_long (x ∷ l) e = absurd (omega arith)
 
 -- no refusal has the number 0
-part_number : (s : PartStep) (n : ℕ) (vs : List ℕ) → part_told s ≡ refused n vs → 0 < n
+part_number : (s : Result PartStep PartError) (n : ℕ) (vs : List ℕ) → part_told s ≡ refused n vs → 0 < n
 unfolding part_told
-part_number (part.Taken k) n vs e = absurd (let z : ◌≡◌ {A = ℕ} 0 1 = cc in omega arith)
-part_number (part.WriteControl k c) n vs e = absurd (let z : ◌≡◌ {A = ℕ} 0 1 = cc in omega arith)
-part_number part.OutputTooShort n vs e = let z : 20 ≡ n = cc in omega arith
-part_number part.AlreadyClosed n vs e = let z : 26 ≡ n = cc in omega arith
-part_number part.ImageTooLong n vs e = let z : 25 ≡ n = cc in omega arith
+part_number (Ok (part.Taken k)) n vs e = absurd (let z : ◌≡◌ {A = ℕ} 0 1 = cc in omega arith)
+part_number (Ok (part.WriteControl k c)) n vs e = absurd (let z : ◌≡◌ {A = ℕ} 0 1 = cc in omega arith)
+part_number (Err part_error.OutputTooShort) n vs e = let z : 20 ≡ n = cc in omega arith
+part_number (Err part_error.AlreadyClosed) n vs e = let z : 26 ≡ n = cc in omega arith
+part_number (Err part_error.ImageTooLong) n vs e = let z : 25 ≡ n = cc in omega arith
 
-pub step_number : (s : UploadStep) (n : ℕ) (vs : List ℕ) → step_told s ≡ refused n vs → 0 < n
+pub step_number : (s : Result UploadStep UploadError) (n : ℕ) (vs : List ℕ) → step_told s ≡ refused n vs → 0 < n
 unfolding step_told
-step_number (upload.WriteControl c) n vs e = absurd (let z : ◌≡◌ {A = ℕ} 0 1 = cc in omega arith)
-step_number upload.Finished n vs e = absurd (let z : ◌≡◌ {A = ℕ} 0 1 = cc in omega arith)
-step_number upload.OutputTooShort n vs e = let z : 20 ≡ n = cc in omega arith
-step_number upload.ImageDiffers n vs e = let z : 27 ≡ n = cc in omega arith
+step_number (Ok (upload.WriteControl c)) n vs e = absurd (let z : ◌≡◌ {A = ℕ} 0 1 = cc in omega arith)
+step_number (Ok upload.Finished) n vs e = absurd (let z : ◌≡◌ {A = ℕ} 0 1 = cc in omega arith)
+step_number (Err upload_error.OutputTooShort) n vs e = let z : 20 ≡ n = cc in omega arith
+step_number (Err upload_error.ImageDiffers) n vs e = let z : 27 ≡ n = cc in omega arith
 
 module _ (area : ℕ) (image : List ℕ) (size : ℕ) where
   -- where a run that began with `ts` seen, and shows `shown`, stands in the end: told 0 only once nothing is left
@@ -69,14 +75,14 @@ module _ (area : ℕ) (image : List ℕ) (size : ℕ) where
     unfolding on_part part_shows handed_seen taken_by follow on_turn said sent after part_told
     by_handed (took n) bs next e =
         let now = front bs out in
-        let meets : PartMeets (parted (part.Taken n) next) m (take size left) out now = record { tells = sym (ap said e); next = sym (ap (after m) e); leaves = sym (ap (λ (t : Told (Does Handed MaskRomOperation)). front (sent t) out) e) } in
-        let here = hands m left ts (take size left) (drop size left) out now (parted (part.Taken n) next) (took n) d (sym (take-append-drop size left)) meets refl in
+        let meets : PartMeets (parted (Ok (part.Taken n)) next) m (take size left) out now = record { tells = sym (ap said e); next = sym (ap (after m) e); leaves = sym (ap (λ (t : Told (Does Handed MaskRomOperation)). front (sent t) out) e) } in
+        let here = hands m left ts (take size left) (drop size left) out now (parted (Ok (part.Taken n)) next) (took n) d (sym (take-append-drop size left)) meets refl in
         let s = more (handing next (drop n left) now) ts (subst (λ (l : List Transfer). Reached area image next (drop n left) l) (append-nil ts) here) in
         record { reached = s.reached; all_handed = s.all_handed }
     by_handed (filled n c) bs next e =
         let now = front bs out in
-        let meets : PartMeets (parted (part.WriteControl n c) next) m (take size left) out now = record { tells = sym (ap said e); next = sym (ap (after m) e); leaves = sym (ap (λ (t : Told (Does Handed MaskRomOperation)). front (sent t) out) e) } in
-        let here = hands m left ts (take size left) (drop size left) out now (parted (part.WriteControl n c) next) (filled n c) d (sym (take-append-drop size left)) meets refl in
+        let meets : PartMeets (parted (Ok (part.WriteControl n c)) next) m (take size left) out now = record { tells = sym (ap said e); next = sym (ap (after m) e); leaves = sym (ap (λ (t : Told (Does Handed MaskRomOperation)). front (sent t) out) e) } in
+        let here = hands m left ts (take size left) (drop size left) out now (parted (Ok (part.WriteControl n c)) next) (filled n c) d (sym (take-append-drop size left)) meets refl in
         let s' = handing next (drop n left) now in
         let s = more s' (ts ++ (seen c now ∷ [])) here in
         record {
@@ -124,13 +130,13 @@ module _ (area : ℕ) (image : List ℕ) where
     unfolding onward step_shows asked_seen follow on_turn said sent after step_told step_drive step_trace
     by_asked (writes c) bs next e f =
         let now = front bs out in
-        let r = closed_with (upload.WriteControl c) next in
+        let r = closed_with (Ok (upload.WriteControl c)) next in
         let meets : CloseMeets r m out now = record { tells = sym (ap said e); next = sym (ap (after m) e); leaves = sym (ap (λ (t : Told (Does Asks MaskRomOperation)). front (sent t) out) e) } in
         subst (Finishes area image) (append_assoc ts (seen c now ∷ []) (step_trace close_step k next now))
         (more next now (ts ++ (seen c now ∷ [])) (closes m [] ts out now r (writes c) d refl meets refl) f)
     by_asked finish bs next e f =
         let now = front bs out in
-        let r = closed_with upload.Finished next in
+        let r = closed_with (Ok upload.Finished) next in
         let meets : CloseMeets r m out now = record { tells = sym (ap said e); next = sym (ap (after m) e); leaves = sym (ap (λ (t : Told (Does Asks MaskRomOperation)). front (sent t) out) e) } in
         subst (Finishes area image) (sym (append-nil ts)) (finishes m [] ts out now r d meets refl)
 

@@ -22,13 +22,15 @@ use Rattle.maskrom.specs.Calls.{StepMeets, unless_refused, sent_of, step_call}
 use Rattle.maskrom.specs.Made.{WholeMade}
 use Rattle.maskrom.proofs.Branches.{step_either}
 use Rattle.mock.specs.declared.device.MockState.{MockState}
-use Rattle.run_upload.specs.declared.LoadTurn.{LoadTurn}
-use Rattle.run_upload.specs.declared.LoadTurn.TheVariants as turn
 use Rattle.run_upload.specs.declared.LoadTurned.{LoadTurned}
 use Rattle.run_upload.specs.declared.LoadRun.{LoadRun}
 use Rattle.run_upload.specs.Load.{LoadState, load_state, onward, carries, load_turn, load_rules, unstarted, load_run}
 use Rattle.run_upload.specs.Answers.{turn_told, TurnMeets, RunMeets}
 use Rattle.theorems.proofs.LinkedWhole.{whole_told}
+use Rattle.std.specs.declared.ops.ControlFlow.{ControlFlow}
+use Rattle.run_upload.specs.declared.LoadStopError.{LoadStopError}
+use Rattle.std.specs.Prelude.{Result}
+use Rattle.std.specs.declared.ops.ControlFlow.TheVariants.{Continue, Break}
 
 -- a call of `step` has an answer, at every record
 pub whole_answered : (u : WholeUpload) (image before : List ℕ) → (r : WholeStepped) × (now : List ℕ) × StepMeets r u image before now
@@ -59,10 +61,10 @@ abbrev Leaves : (LoadState → Type 0) → Turned Unit LoadState → Type 0
 Leaves P (ends told s) = P s
 Leaves P (goes s) = P s
 
-left_by_turn : (P : LoadState → Type 0) (t : LoadTurn) (s : LoadState) → Leaves P (turn_told t s) → P s
+left_by_turn : (P : LoadState → Type 0) (t : ControlFlow (Result Unit LoadStopError) Unit) (s : LoadState) → Leaves P (turn_told t s) → P s
 unfolding turn_told
-left_by_turn P turn.Goes s p = p
-left_by_turn P (turn.Ends stop) s p = p
+left_by_turn P (Continue u) s p = p
+left_by_turn P (Break stop) s p = p
 
 module _ (lends : List ℕ → Type 0) (area : ℕ) (image p : List ℕ) (first : WholeUpload) (lent : List ℕ) (lend : lends lent) where
   -- the bytes q were taken since `first`: those of the lent image behind what that had taken

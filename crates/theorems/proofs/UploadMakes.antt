@@ -16,12 +16,14 @@ use Rattle.mock_base.specs.declared.config.MockDeviceConfig.{MockDeviceConfig}
 use Rattle.mock.specs.declared.device.MockState.{MockState}
 use Rattle.mock.specs.Device.{write_control}
 use Rattle.mock.specs.Made.{Made, controls}
-use Rattle.run_upload.specs.declared.LoadTurn.{LoadTurn}
-use Rattle.run_upload.specs.declared.LoadTurn.TheVariants as turn
 use Rattle.run_upload.specs.declared.LoadTurned.{LoadTurned}
 use Rattle.run_upload.specs.declared.LoadRun.{LoadRun}
 use Rattle.run_upload.specs.Load.{LoadState, load_state, onward, carries, load_turn, load_rules, unstarted, load_run}
 use Rattle.run_upload.specs.Answers.{turn_told, TurnMeets, RunMeets}
+use Rattle.std.specs.declared.ops.ControlFlow.{ControlFlow}
+use Rattle.run_upload.specs.declared.LoadStopError.{LoadStopError}
+use Rattle.std.specs.Prelude.{Result}
+use Rattle.std.specs.declared.ops.ControlFlow.TheVariants.{Continue, Break}
 
 module _ (v : Variety) (config : MockDeviceConfig) (n : ℕ) where
   abbrev Turns : Turned Unit LoadState → Type 0
@@ -60,10 +62,10 @@ module _ (v : Variety) (config : MockDeviceConfig) (n : ℕ) where
   runs_make image (suc budget) s made =
       follow_makes (load_turn image s) (λ next. runs (load_turn image) budget next) (turn_makes image s made) (λ next on. runs_make image budget next on)
 
-  turned_makes : (t : LoadTurn) (s : LoadState) → Turns (turn_told t s) → Made v config n s.device
+  turned_makes : (t : ControlFlow (Result Unit LoadStopError) Unit) (s : LoadState) → Turns (turn_told t s) → Made v config n s.device
   unfolding turn_told
-  turned_makes turn.Goes s made = made
-  turned_makes (turn.Ends stop) s made = made
+  turned_makes (Continue u) s made = made
+  turned_makes (Break stop) s made = made
 
   -- over the contract of `load_turn`
   pub upload_turn_makes : (r : LoadTurned) (u : WholeUpload) (device : MockState) (image store left : List ℕ) → Made v config n device

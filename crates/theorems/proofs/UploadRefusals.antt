@@ -20,7 +20,6 @@ use Rattle.mock_areas.specs.Slots.{slot_count, slot_size, place}
 use Rattle.mock_areas.specs.Append.{Appending, append_rules, refused_append, appended_at, append_step}
 use Rattle.mock_areas.proofs.Room.{slot_inside}
 use Rattle.mock_base.specs.Flash.{flash_sectors, size_told}
-use Rattle.mock_base.specs.declared.range.FlashSectors.TheVariants as size
 use Rattle.mock.specs.declared.device.MockState.{MockState}
 use Rattle.mock.specs.Device.{Call, is_upload, control_rules, with_areas, write_control}
 use Rattle.promise.specs.Run.{end_told, Ran, runs}
@@ -30,6 +29,7 @@ use Rattle.theorems.proofs.UploadTransfers.{Loads, spent, finished, stopped, sen
 use Rattle.theorems.specs.Runs.{written, upload_run}
 use Rattle.theorems.proofs.UploadSteps.{whole_many}
 use Rattle.theorems.specs.Told.{UploadTold, accepted, no_slot, slot_full}
+use Rattle.std.specs.declared.result.Result.TheVariants.{Ok}
 
 module _ (areas : Areas) (number : ℕ) (bytes store : List ℕ) where
   append_told : UploadTold (append_step areas number bytes store).told
@@ -81,7 +81,7 @@ module _ (area : ℕ) (image : List ℕ) (flash : ℕ) (device : MockState) (sto
   unfolding size_told
   upload_told budget h =
       let s = load_state (fresh_whole area (length image)) device store in
-      rw (unrefused image flash budget s (size.Whole sectors) sectors (sym legal) refl long refl)
+      rw (unrefused image flash budget s (Ok sectors) sectors (sym legal) refl long refl)
       (loads_told area (cut (upload_bytes image)) budget device store (runs (load_turn image) budget s) (fresh_loads area image budget device store) long
       (omega (arith, cut_many (upload_bytes image))))
 

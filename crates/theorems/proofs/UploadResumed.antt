@@ -21,8 +21,6 @@ use Rattle.mock_base.specs.Flash.{flash_rules}
 use Rattle.mock_areas.specs.Append.{append_step}
 use Rattle.mock.specs.declared.device.MockState.{MockState}
 use Rattle.mock.specs.Device.{Call, with_areas, control_rules, write_control}
-use Rattle.run_upload.specs.declared.LoadAnswer.{LoadAnswer}
-use Rattle.run_upload.specs.declared.LoadAnswer.TheVariants as load
 use Rattle.run_upload.specs.declared.LoadRun.{LoadRun}
 use Rattle.run_upload.specs.Load.{LoadState, load_state, carries, load_turn, load_rules, load_run, upload_budget}
 use Rattle.run_upload.specs.Load as loading
@@ -32,6 +30,10 @@ use Rattle.theorems.specs.Resumed.{joined_load}
 use Rattle.theorems.proofs.UploadSteps.{whole_upload_ends}
 use Rattle.theorems.proofs.UploadRefusals.{append_long}
 use Rattle.theorems.proofs.CheckedRuns.{spent_met, checked_resumed, checked_whole}
+use Rattle.std.specs.Prelude.{Result}
+use Rattle.run_upload.specs.declared.LoadError.{LoadError}
+use Rattle.run_upload.specs.declared.LoadError.TheVariants.{OutOfSteps}
+use Rattle.std.specs.declared.result.Result.TheVariants.{Err}
 
 -- what the look at is as it was
 record LoadKept (s t : LoadState) : Type 0 where
@@ -141,11 +143,11 @@ load_length image flash a s e =
     ∙ (loads_kept image a s).image
 
 module _ (first second whole : LoadRun) (device : MockState) (image store store₁ store₂ store₃ : List ℕ) (flash a : ℕ)
-    (out : first.answer ≡ load.OutOfSteps) where
+    (out : first.answer ≡ Err OutOfSteps) where
   load_spent : (u : WholeUpload) → loaded.RunMeets first store₁ (load_run image flash a (load_state u device store))
       → (load_run image flash a (load_state u device store)).end ≡ out_of_steps
   unfolding loaded.answer_end
-  load_spent u m = sym m.tells ∙ ap (λ (x : LoadAnswer). loaded.answer_end x) out
+  load_spent u m = sym m.tells ∙ ap (λ (x : Result Unit LoadError). loaded.answer_end x) out
 
   load_joins : (b all : ℕ) (u : WholeUpload)
       → (let s = load_state u device store in

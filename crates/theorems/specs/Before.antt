@@ -30,8 +30,6 @@ use Rattle.mock_table.specs.Turn.{Turn, refuses, done, has_code, is_erase, is_in
 use Rattle.mock_table.specs.Table.{range_of, range_rule, length_rule}
 use Rattle.mock_table.specs.declared.session.CommandState.{CommandState}
 use Rattle.mock_table.specs.declared.session.CommandState.TheVariants.{None, IO, Status}
-use Rattle.mock_table.specs.declared.session.LastReset.{LastReset}
-use Rattle.mock_table.specs.declared.session.LastReset.TheVariants as reset
 use Rattle.mock_table.specs.declared.session.Session.{Session}
 use Rattle.mock_table.specs.declared.outcome.Effect.{Effect}
 use Rattle.mock_table.specs.declared.outcome.Effect.TheVariants.{Nothing, Fill, Store, Program, Supply, Reply as Replies}
@@ -42,6 +40,8 @@ use Rattle.mock_effects.specs.Steps.{Step, keeps}
 use Rattle.mock.specs.Device.{Call, session_of, bulk}
 use Rattle.mock.specs.declared.device.MockState.{MockState}
 use Rattle.run_turn.specs.Turn.{UsbState, usb_state, wrote, buffer_for, got}
+use Rattle.std.specs.Prelude.{Option}
+use Rattle.std.specs.declared.option.Option.TheVariants.{Some, None}
 
 -- which way the data of a command over sectors goes
 unfoldable pub moved_by : Direction → FlashRange → Effect
@@ -49,39 +49,39 @@ moved_by Out range = Store range
 moved_by In range = Supply range
 
 -- range (57); length (50), count times 512; then awaits status
-unfoldable pub sector_turn : LastReset → CommandBlock → Direction → ℕ → ℕ → Turn
+unfoldable pub sector_turn : Option ResetOpcode → CommandBlock → Direction → ℕ → ℕ → Turn
 sector_turn last c direction sectors actual =
     or_refuse (refuses last) (range_rule c sectors ∷ length_rule (c.cd_length * sector_size) actual ∷ [])
     (done (Status c SUCCESS) last (moved_by direction (range_of c)))
 
 -- reset (52) stores its opcode
-unfoldable pub stored_reset : Told ResetOpcode → LastReset → CommandBlock → Turn
-stored_reset (given opcode) last c = done (Status c SUCCESS) (reset.Some opcode) Nothing
+unfoldable pub stored_reset : Told ResetOpcode → (Option ResetOpcode) → CommandBlock → Turn
+stored_reset (given opcode) last c = done (Status c SUCCESS) (Some opcode) Nothing
 stored_reset (refused number values) last c = refuses last number values
 
-abbrev pub reset_turn : LastReset → CommandBlock → Turn
+abbrev pub reset_turn : Option ResetOpcode → CommandBlock → Turn
 reset_turn last c = stored_reset (reset_of c.cd_opcode) last c
 
 -- transfer length 0: erases (both codes, 57) fill with 0xFF, reset (52) stores its opcode, others 53; then awaits status
-unfoldable pub zero_length_turn : LastReset → CommandBlock → ℕ → Turn
+unfoldable pub zero_length_turn : Option ResetOpcode → CommandBlock → ℕ → Turn
 zero_length_turn last c sectors =
     pick (is_erase c) (or_refuse (refuses last) (range_rule c sectors ∷ []) (done (Status c SUCCESS) last (Fill (range_of c))))
     (pick (has_code c DeviceReset) (reset_turn last c)
     (refuses last 53 (code_number c.cd_code ∷ [])))
 
 -- write in none: parse (56); transfer length 0: as above; non-zero: awaits data
-unfoldable pub start_turn : Told CommandBlock → LastReset → ℕ → Turn
+unfoldable pub start_turn : Told CommandBlock → (Option ResetOpcode) → ℕ → Turn
 start_turn (given c) last sectors = pick (eqb c.transfer_length 0) (zero_length_turn last c sectors) (done (IO c) last Nothing)
 start_turn (refused number values) last sectors = refuses last 56 (number ∷ values)
 
 -- write awaiting data: direction out, else 55; code WriteLBA, else 55; range (57); length (50)
-unfoldable pub write_io_turn : LastReset → CommandBlock → ℕ → ℕ → Turn
+unfoldable pub write_io_turn : Option ResetOpcode → CommandBlock → ℕ → ℕ → Turn
 write_io_turn last c sectors actual =
     or_refuse (refuses last) (rule (not (is_out c.flags)) 55 [] ∷ rule (not (has_code c WriteLBA)) 55 [] ∷ [])
     (sector_turn last c Out sectors actual)
 
 -- a bulk write, by the transaction; awaiting status: 55
-unfoldable pub write_row : CommandState → LastReset → ℕ → List ℕ → Turn
+unfoldable pub write_row : CommandState → (Option ResetOpcode) → ℕ → List ℕ → Turn
 write_row None last sectors bytes = start_turn (read_command bytes) last sectors
 write_row (IO c) last sectors bytes = write_io_turn last c sectors (length bytes)
 write_row (Status c status) last sectors bytes = refuses last 55 []
@@ -90,11 +90,11 @@ abbrev pub write_turn : Session → ℕ → List ℕ → Turn
 write_turn s sectors bytes = write_row s.current_command s.last_reset sectors bytes
 
 -- the four replies (50 on length)
-unfoldable pub reply_turn : LastReset → CommandBlock → ReplyKind → ℕ → Turn
+unfoldable pub reply_turn : Option ResetOpcode → CommandBlock → ReplyKind → ℕ → Turn
 reply_turn last c kind room = or_refuse (refuses last) (length_rule (reply_size kind) room ∷ []) (done (Status c SUCCESS) last (Replies kind))
 
 -- .. or ReadLBA (57, then 50); other codes 54
-unfoldable pub code_turn : LastReset → CommandBlock → ℕ → ℕ → Turn
+unfoldable pub code_turn : Option ResetOpcode → CommandBlock → ℕ → ℕ → Turn
 code_turn last c sectors room =
     pick (has_code c ReadFlashId) (reply_turn last c reply.FlashId room)
     (pick (has_code c ReadFlashInfo) (reply_turn last c reply.FlashInfo room)
@@ -104,16 +104,16 @@ code_turn last c sectors room =
     (refuses last 54 [])))))
 
 -- read awaiting data: direction in, else 54; then as above
-unfoldable pub read_io_turn : LastReset → CommandBlock → ℕ → ℕ → Turn
+unfoldable pub read_io_turn : Option ResetOpcode → CommandBlock → ℕ → ℕ → Turn
 read_io_turn last c sectors room = or_refuse (refuses last) (rule (not (is_in c.flags)) 54 [] ∷ []) (code_turn last c sectors room)
 
 -- awaiting status: a 13-byte buffer gets tag, residue 0, success; other sizes 54
-unfoldable pub status_turn : LastReset → CommandBlock → ℕ → Turn
+unfoldable pub status_turn : Option ResetOpcode → CommandBlock → ℕ → Turn
 status_turn last c room =
     or_refuse (refuses last) (rule (not (eqb room (reply_size (reply.Status c.tag SUCCESS)))) 54 [] ∷ []) (done None last (Replies (reply.Status c.tag SUCCESS)))
 
 -- a bulk read into `room` bytes, by the transaction; in none: 54
-unfoldable pub read_row : CommandState → LastReset → ℕ → ℕ → Turn
+unfoldable pub read_row : CommandState → (Option ResetOpcode) → ℕ → ℕ → Turn
 read_row None last sectors room = refuses last 54 []
 read_row (IO c) last sectors room = read_io_turn last c sectors room
 read_row (Status c status) last sectors room = status_turn last c room

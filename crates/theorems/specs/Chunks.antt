@@ -2,16 +2,18 @@
 use Rattle.std.specs.Prelude.{ℕ, ◌*◌, ◌≤◌, List, [], ◌∷◌, ◌++◌, length, take}
 use Rattle.deck_line.specs.Line.{longest_line}
 use Rattle.deck_block.specs.Blocks.{begun}
-use Rattle.deck_chunk.specs.declared.ChunkAnswer.{ChunkAnswer}
-use Rattle.deck_chunk.specs.declared.ChunkAnswer.TheVariants.{Dealt, TooShort}
 use Rattle.deck_chunk.specs.declared.ChunkStep.{ChunkStep}
 use Rattle.deck_chunk.specs.Deck.{Table, table}
 use Rattle.deck_chunk.specs.Chunk.{deal_chunk, ChunkMeets}
+use Rattle.std.specs.Prelude.{Result}
+use Rattle.deck_chunk.specs.declared.ChunkCount.{ChunkCount}
+use Rattle.rule_number.specs.declared.OutputTooShort.{OutputTooShort}
+use Rattle.std.specs.declared.result.Result.TheVariants.{Ok, Err}
 
 -- the lines in a buffer after a chunk, by its answer
-unfoldable pub written : ChunkAnswer → List ℕ → List ℕ
-written (Dealt count) buffer = take count.bytes buffer
-written TooShort buffer = []
+unfoldable pub written : Result ChunkCount OutputTooShort → List ℕ → List ℕ
+written (Ok count) buffer = take count.bytes buffer
+written (Err e) buffer = []
 
 -- any caller of `deal_chunk` who deals these chunks in this order, each with a buffer that is long enough: the lines that were written, joined, and
 -- what is left

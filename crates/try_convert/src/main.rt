@@ -4,7 +4,6 @@
 #![tactic(auto)]
 
 use deck_convert::Convert;
-use deck_io::complaint::say_of;
 use deck_io::input::read_full;
 use deck_io::within;
 use std::io::{Result, Write};
@@ -19,34 +18,14 @@ const LENGTH: usize = 9316;
 // More turns than any of the decks has chunks: the last ones are empty.
 const TURNS: usize = 25;
 
-fn print<W: Write>(to: &mut W, text: &[u8]) -> Result<()> {
-    to.write_all(text)
-}
-
-fn print_number<W: Write>(to: &mut W, before: &[u8], number: u64, behind: &[u8]) -> Result<()> {
-    say_of(to, before, number, behind)
-}
-
-fn print_byte<W: Write>(to: &mut W, byte: u8) -> Result<()> {
-    write!(to, "{byte:02x}")
-}
-
-fn print_block<W: Write>(to: &mut W, deck: &[u8; 10340], block: usize) -> Result<()> {
-    let at = block % 20 * BLOCK;
-    print(to, b" ")?;
-    print_byte(to, deck[at])?;
-    print(to, b":")?;
-    print_byte(to, deck[at + 510])?;
-    print_byte(to, deck[at + 511])
-}
-
 // The kind and the check of each block.
 fn print_blocks<W: Write>(to: &mut W, deck: &[u8; 10340]) -> Result<()> {
-    print(to, b"kinds and checks")?;
-    for block in 0..20 {
-        print_block(to, deck, block)?;
+    write!(to, "kinds and checks")?;
+    let (blocks, _) = deck.as_chunks::<BLOCK>();
+    for block in blocks {
+        write!(to, " {:02x}:{:02x}{:02x}", block[0], block[510], block[511])?;
     }
-    print(to, b"\n")
+    writeln!(to)
 }
 
 fn is_kind_or_check(at: usize) -> bool {
@@ -55,8 +34,8 @@ fn is_kind_or_check(at: usize) -> bool {
 
 // Whether all bytes are as before but kinds and checks, which are printed.
 fn is_as_before(old: &[u8; 10340], new: &[u8; 10340]) -> bool {
-    for at in 0..10340 {
-        if old[at] != new[at] && !is_kind_or_check(at) {
+    for (at, (before, after)) in old.iter().zip(new).enumerate() {
+        if before != after && !is_kind_or_check(at) {
             return false;
         }
     }
@@ -64,9 +43,11 @@ fn is_as_before(old: &[u8; 10340], new: &[u8; 10340]) -> bool {
 }
 
 fn print_convert<W: Write>(to: &mut W, convert: Convert) -> Result<()> {
-    print_number(to, b"tag ", convert.tag as u64, b"")?;
-    print_number(to, b", converted ", convert.converted, b"")?;
-    print_number(to, b", left ", convert.left, b"\n")
+    writeln!(
+        to,
+        "tag {}, converted {}, left {}",
+        convert.tag, convert.converted, convert.left
+    )
 }
 
 // What a deck came to.
@@ -77,11 +58,12 @@ fn show<W: Write>(
     convert: Convert,
 ) -> Result<()> {
     print_blocks(to, new)?;
-    if is_as_before(old, new) {
-        print(to, b"all else is as before\n")?;
+    let rest = if is_as_before(old, new) {
+        "all else is as before"
     } else {
-        print(to, b"SOMETHING ELSE CHANGED\n")?;
-    }
+        "SOMETHING ELSE CHANGED"
+    };
+    writeln!(to, "{rest}")?;
     print_convert(to, convert)
 }
 
@@ -93,18 +75,7 @@ fn convert_next(convert: Convert, deck: &mut [u8], from: usize, size: usize) -> 
     convert.convert_chunk(&mut rest[..n])
 }
 
-// A deck that goes on behind this record, in chunks of `size` bytes.
-fn convert_cut(convert: Convert, deck: &mut [u8], size: usize) -> Convert {
-    let mut next = convert;
-    let mut at = 0;
-    for _ in 0..TURNS {
-        next = convert_next(next, deck, at, size);
-        at = at.wrapping_add(size);
-    }
-    next
-}
-
-// The same of the `length` bytes that start here.
+// The `length` bytes that start here, behind this record, in chunks of `size` bytes.
 fn convert_part(
     convert: Convert,
     deck: &mut [u8],
@@ -115,35 +86,41 @@ fn convert_part(
     let at = within(start, deck);
     let rest = &mut deck[at..];
     let n = within(length, rest);
-    convert_cut(convert, &mut rest[..n], size)
+    let mut next = convert;
+    let mut from = 0usize;
+    for _ in 0..TURNS {
+        next = convert_next(next, &mut rest[..n], from, size);
+        from = from.wrapping_add(size);
+    }
+    next
 }
 
 fn try_first<W: Write>(to: &mut W, old: [u8; 10340], length: usize, size: usize) -> Result<()> {
     let mut deck = old;
-    print_number(to, b"\n", length as u64, b" bytes in chunks of ")?;
-    print_number(to, b"", size as u64, b"\n")?;
+    writeln!(to, "\n{length} bytes in chunks of {size}")?;
     let convert = convert_part(Convert::new(), &mut deck, DECK, length, size);
     show(to, &old, &deck, convert)
 }
 
 // The deck with one byte more by one.
 fn changed(mut deck: [u8; 10340], at: usize) -> [u8; 10340] {
-    let place = at % 10340;
-    deck[place] = deck[place].wrapping_add(1);
+    if let Some(byte) = deck.get_mut(at) {
+        *byte = byte.wrapping_add(1);
+    }
     deck
 }
 
 fn try_changed<W: Write>(to: &mut W, old: [u8; 10340], at: usize) -> Result<()> {
     let other = changed(old, at);
     let mut deck = other;
-    print_number(to, b"\nbyte ", at as u64, b" is more by one\n")?;
+    writeln!(to, "\nbyte {at} is more by one")?;
     let convert = convert_part(Convert::new(), &mut deck, DECK, LENGTH, 8192);
     show(to, &other, &deck, convert)
 }
 
 fn try_again<W: Write>(to: &mut W, old: [u8; 10340]) -> Result<()> {
     let mut deck = old;
-    print(to, b"\na deck that has been converted\n")?;
+    writeln!(to, "\na deck that has been converted")?;
     let first = convert_part(Convert::new(), &mut deck, DECK, LENGTH, 8192);
     show(to, &old, &deck, first)?;
     let once = deck;
@@ -160,64 +137,62 @@ fn try_from<W: Write>(
     convert: Convert,
 ) -> Result<()> {
     let mut deck = old;
-    print_number(to, b"\n", length as u64, b" bytes from byte ")?;
-    print_number(to, b"", start as u64, b" behind\n")?;
+    writeln!(to, "\n{length} bytes from byte {start} behind")?;
     print_convert(to, convert)?;
     let next = convert_part(convert, &mut deck, start, length, 8192);
     show(to, &old, &deck, next)
 }
 
-fn behind(tag: u32, converted: u64, left: u64) -> Convert {
-    Convert {
-        tag,
-        converted,
-        left,
-    }
-}
-
-fn try_edges<W: Write>(to: &mut W, old: [u8; 10340]) -> Result<()> {
-    try_first(to, old, 0, 8192)?;
-    try_first(to, old, 1, 8192)?;
-    try_first(to, old, 511, 8192)?;
-    try_first(to, old, 512, 8192)?;
-    try_first(to, old, 513, 8192)?;
-    try_first(to, old, 8192, 8192)?;
-    try_first(to, old, 8193, 8192)?;
-    try_first(to, old, LENGTH, 8192)?;
-    try_first(to, old, LENGTH, 512)?;
-    try_first(to, old, LENGTH, 1536)?;
-    try_first(to, old, LENGTH, LENGTH)
-}
+// A part's length, and that of its chunks.
+const EDGES: [(usize, usize); 11] = [
+    (0, 8192),
+    (1, 8192),
+    (511, 8192),
+    (512, 8192),
+    (513, 8192),
+    (8192, 8192),
+    (8193, 8192),
+    (LENGTH, 8192),
+    (LENGTH, 512),
+    (LENGTH, 1536),
+    (LENGTH, LENGTH),
+];
 
 // In block 1 the kind, the last byte before the check and the check's low byte; then the kind of block 2, whose check is wrong.
-fn try_changes<W: Write>(to: &mut W, old: [u8; 10340]) -> Result<()> {
-    try_changed(to, old, 1024)?;
-    try_changed(to, old, 1533)?;
-    try_changed(to, old, 1535)?;
-    try_changed(to, old, 1536)
-}
+const CHANGES: [usize; 4] = [1024, 1533, 1535, 1536];
 
-fn try_records<W: Write>(to: &mut W, old: [u8; 10340]) -> Result<()> {
-    try_from(to, old, 0, 10340, behind(4294967294, 0, 0))?;
-    try_from(to, old, DECK, LENGTH, behind(1, 0, 0))?;
-    try_from(to, old, DECK, 511, behind(u32::MAX, 7, 8))?;
-    try_from(to, old, DECK, 1024, behind(0, u64::MAX, u64::MAX))?;
-    try_from(
-        to,
-        old,
-        DECK,
-        2048,
-        behind(0, 18446744073709551614, 18446744073709551614),
-    )
+// Where a part starts, its length, and the tag and the counts of the record before it.
+const RECORDS: [(usize, usize, u32, u64, u64); 5] = [
+    (0, 10340, 4294967294, 0, 0),
+    (DECK, LENGTH, 1, 0, 0),
+    (DECK, 511, u32::MAX, 7, 8),
+    (DECK, 1024, 0, u64::MAX, u64::MAX),
+    (DECK, 2048, 0, 18446744073709551614, 18446744073709551614),
+];
+
+fn try_all<W: Write>(to: &mut W, old: [u8; 10340]) -> Result<()> {
+    for (length, size) in EDGES {
+        try_first(to, old, length, size)?;
+    }
+    for at in CHANGES {
+        try_changed(to, old, at)?;
+    }
+    try_again(to, old)?;
+    for (start, length, tag, converted, left) in RECORDS {
+        let before = Convert {
+            tag,
+            converted,
+            left,
+        };
+        try_from(to, old, start, length, before)?;
+    }
+    Ok(())
 }
 
 fn main(rt: HostRuntime) -> Result<()> {
-    let mut old = [0u8; 10340];
+    let mut old = [0; 10340];
     let n = read_full(&mut rt.stdin(), &mut old)?;
     let mut output = rt.stdout();
-    print_number(&mut output, b"", n as u64, b" bytes\n")?;
-    try_edges(&mut output, old)?;
-    try_changes(&mut output, old)?;
-    try_again(&mut output, old)?;
-    try_records(&mut output, old)
+    writeln!(output, "{n} bytes")?;
+    try_all(&mut output, old)
 }

@@ -2,10 +2,9 @@
 
 #![tactic(auto)]
 
-use deck_io::complaint::say_of;
 use deck_io::input::read_full;
 use deck_io::within;
-use deck_recheck::{Recheck, RecheckStep, Stop};
+use deck_recheck::{Recheck, RecheckStep, stop_number};
 use std::io::{Result, Write};
 
 const BLOCK: usize = 512;
@@ -13,34 +12,14 @@ const BLOCK: usize = 512;
 // More turns than any of the decks has chunks: the last ones are empty, or are refused again.
 const TURNS: usize = 20;
 
-fn print<W: Write>(to: &mut W, text: &[u8]) -> Result<()> {
-    to.write_all(text)
-}
-
-fn print_number<W: Write>(to: &mut W, before: &[u8], number: u64, behind: &[u8]) -> Result<()> {
-    say_of(to, before, number, behind)
-}
-
-fn print_byte<W: Write>(to: &mut W, byte: u8) -> Result<()> {
-    write!(to, "{byte:02x}")
-}
-
-fn print_check<W: Write>(to: &mut W, deck: &[u8; 9316], block: usize) -> Result<()> {
-    let at = block % 18 * BLOCK + 510;
-    print(to, b" ")?;
-    print_byte(to, deck[at])?;
-    print_byte(to, deck[at + 1])
-}
-
 // The check of each block that was rechecked.
 fn print_checks<W: Write>(to: &mut W, deck: &[u8; 9316], rechecked: usize) -> Result<()> {
-    print(to, b"checks")?;
-    for block in 0..18 {
-        if block < rechecked / BLOCK {
-            print_check(to, deck, block)?;
-        }
+    write!(to, "checks")?;
+    let (blocks, _) = deck.as_chunks::<BLOCK>();
+    for block in blocks.iter().take(rechecked / BLOCK) {
+        write!(to, " {:02x}{:02x}", block[510], block[511])?;
     }
-    print(to, b"\n")
+    writeln!(to)
 }
 
 fn is_in_check(at: usize, rechecked: usize) -> bool {
@@ -49,8 +28,8 @@ fn is_in_check(at: usize, rechecked: usize) -> bool {
 
 // Whether all bytes are as before but the checks of what was rechecked.
 fn is_as_before(old: &[u8; 9316], new: &[u8; 9316], rechecked: usize) -> bool {
-    for at in 0..9316 {
-        if old[at] != new[at] && !is_in_check(at, rechecked) {
+    for (at, (before, after)) in old.iter().zip(new).enumerate() {
+        if before != after && !is_in_check(at, rechecked) {
             return false;
         }
     }
@@ -58,23 +37,24 @@ fn is_as_before(old: &[u8; 9316], new: &[u8; 9316], rechecked: usize) -> bool {
 }
 
 fn print_recheck<W: Write>(to: &mut W, recheck: Recheck) -> Result<()> {
-    let stop = recheck.stop;
-    print_number(to, b"block ", recheck.number, b"")?;
-    print_number(to, b", tag ", recheck.tag as u64, b"")?;
-    print_number(to, b", stop ", stop.number() as u64, b"\n")
+    let stop = stop_number(recheck.stop);
+    writeln!(
+        to,
+        "block {}, tag {}, stop {stop}",
+        recheck.number, recheck.tag
+    )
 }
 
 // What a deck came to.
 fn show<W: Write>(to: &mut W, old: &[u8; 9316], new: &[u8; 9316], step: RecheckStep) -> Result<()> {
-    let recheck = step.recheck;
     print_checks(to, new, step.bytes)?;
-    print_number(to, b"", step.bytes as u64, b" bytes rechecked; ")?;
-    if is_as_before(old, new, step.bytes) {
-        print(to, b"all else is as before\n")?;
+    let rest = if is_as_before(old, new, step.bytes) {
+        "all else is as before"
     } else {
-        print(to, b"SOMETHING ELSE CHANGED\n")?;
-    }
-    print_recheck(to, recheck)
+        "SOMETHING ELSE CHANGED"
+    };
+    writeln!(to, "{} bytes rechecked; {rest}", step.bytes)?;
+    print_recheck(to, step.recheck)
 }
 
 // One chunk of at most so many bytes, behind those that are rechecked.
@@ -82,52 +62,42 @@ fn recheck_next(step: RecheckStep, deck: &mut [u8], size: usize) -> RecheckStep 
     let at = within(step.bytes, deck);
     let rest = &mut deck[at..];
     let n = within(size, rest);
-    let before = step.recheck;
-    let next = before.recheck_chunk(&mut rest[..n]);
-    let recheck = next.recheck;
+    let next = step.recheck.recheck_chunk(&mut rest[..n]);
     RecheckStep {
         bytes: at.wrapping_add(next.bytes),
-        recheck: recheck,
+        recheck: next.recheck,
     }
 }
 
-// A deck that goes on behind this record, in chunks of `size` bytes.
-fn recheck_cut(recheck: Recheck, deck: &mut [u8], size: usize) -> RecheckStep {
-    let mut step = RecheckStep {
-        bytes: 0,
-        recheck: recheck,
-    };
+// The deck's first `length` bytes behind this record, in chunks of `size` bytes.
+fn recheck_first(recheck: Recheck, deck: &mut [u8], length: usize, size: usize) -> RecheckStep {
+    let n = within(length, deck);
+    let mut step = RecheckStep { bytes: 0, recheck };
     for _ in 0..TURNS {
-        step = recheck_next(step, deck, size);
+        step = recheck_next(step, &mut deck[..n], size);
     }
     step
 }
 
-// The same of the deck's first `length` bytes.
-fn recheck_first(recheck: Recheck, deck: &mut [u8], length: usize, size: usize) -> RecheckStep {
-    let n = within(length, deck);
-    recheck_cut(recheck, &mut deck[..n], size)
-}
-
 fn try_first<W: Write>(to: &mut W, old: [u8; 9316], length: usize, size: usize) -> Result<()> {
     let mut deck = old;
-    print_number(to, b"\n", length as u64, b" bytes in chunks of ")?;
-    print_number(to, b"", size as u64, b"\n")?;
+    writeln!(to, "\n{length} bytes in chunks of {size}")?;
     let step = recheck_first(Recheck::new(), &mut deck, length, size);
     show(to, &old, &deck, step)
 }
 
 // The deck with one byte more by one.
 fn changed(mut deck: [u8; 9316], at: usize) -> [u8; 9316] {
-    let place = at % 9316;
-    deck[place] = deck[place].wrapping_add(1);
+    if let Some(byte) = deck.get_mut(at) {
+        *byte = byte.wrapping_add(1);
+    }
     deck
 }
 
 fn try_changed<W: Write>(to: &mut W, old: [u8; 9316], at: usize) -> Result<()> {
     let bad = changed(old, at);
     let mut deck = bad;
-    print_number(to, b"\nbyte ", at as u64, b" is more by one\n")?;
+    writeln!(to, "\nbyte {at} is more by one")?;
     let step = recheck_first(Recheck::new(), &mut deck, 9216, 8192);
     show(to, &bad, &deck, step)
 }
@@ -140,9 +110,8 @@ fn try_behind<W: Write>(
     length: usize,
 ) -> Result<()> {
     let mut deck = old;
-    let stopped = recheck_first(Recheck::new(), &mut stopping, length, 8192);
-    let recheck = stopped.recheck;
-    print(to, b"\ntwo right blocks behind a stop at\n")?;
+    let recheck = recheck_first(Recheck::new(), &mut stopping, length, 8192).recheck;
+    writeln!(to, "\ntwo right blocks behind a stop at")?;
     print_recheck(to, recheck)?;
     let step = recheck_first(recheck, &mut deck, 1024, 8192);
     show(to, &old, &deck, step)
@@ -152,7 +121,7 @@ fn try_again<W: Write>(to: &mut W, old: [u8; 9316]) -> Result<()> {
     let mut deck = old;
     recheck_first(Recheck::new(), &mut deck, 9216, 8192);
     let once = deck;
-    print(to, b"\na deck that has been rechecked\n")?;
+    writeln!(to, "\na deck that has been rechecked")?;
     let step = recheck_first(Recheck::new(), &mut deck, 9216, 8192);
     show(to, &once, &deck, step)
 }
@@ -169,50 +138,62 @@ fn try_from<W: Write>(
     let recheck = Recheck {
         number,
         tag,
-        stop: Stop::NotYet,
+        stop: None,
     };
-    print_number(to, b"\n", length as u64, b" bytes behind\n")?;
+    writeln!(to, "\n{length} bytes behind")?;
     print_recheck(to, recheck)?;
     let step = recheck_first(recheck, &mut deck, length, 8192);
     show(to, &old, &deck, step)
 }
 
-fn try_edges<W: Write>(to: &mut W, old: [u8; 9316]) -> Result<()> {
-    try_first(to, old, 0, 8192)?;
-    try_first(to, old, 1, 8192)?;
-    try_first(to, old, 511, 8192)?;
-    try_first(to, old, 512, 8192)?;
-    try_first(to, old, 8192, 8192)?;
-    try_first(to, old, 8193, 8192)?;
-    try_first(to, old, 8704, 8192)?;
-    try_first(to, old, 9316, 8192)?;
-    try_first(to, old, 9316, 512)?;
-    try_first(to, old, 9316, 1536)?;
-    try_first(to, old, 9316, 9316)
-}
+// A deck's length, and that of its chunks.
+const EDGES: [(usize, usize); 11] = [
+    (0, 8192),
+    (1, 8192),
+    (511, 8192),
+    (512, 8192),
+    (8192, 8192),
+    (8193, 8192),
+    (8704, 8192),
+    (9316, 8192),
+    (9316, 512),
+    (9316, 1536),
+    (9316, 9316),
+];
 
-fn try_stops<W: Write>(to: &mut W, old: [u8; 9316]) -> Result<()> {
-    // the kind of block 1; the last zero of block 3; the check of block 16, its high byte; that of block 18, its low byte
-    try_changed(to, old, 0)?;
-    try_changed(to, old, 1533)?;
-    try_changed(to, old, 8190)?;
-    try_changed(to, old, 9215)?;
+// The kind of block 1; the last zero of block 3; the check of block 16, its high byte; that of block 18, its low byte.
+const CHANGES: [usize; 4] = [0, 1533, 8190, 9215];
+
+// A record's number and tag, and how many bytes come behind it.
+const RECORDS: [(u64, u32, usize); 5] = [
+    (u64::MAX, u32::MAX, 512),
+    (18446744073709551614, 4294967294, 1024),
+    (4294967295, u32::MAX, 1024),
+    (u64::MAX, u32::MAX, 511),
+    // the one tag of 1 to 65,535 at which the new check is the old one
+    (39359, 39359, 512),
+];
+
+fn try_all<W: Write>(to: &mut W, old: [u8; 9316]) -> Result<()> {
+    for (length, size) in EDGES {
+        try_first(to, old, length, size)?;
+    }
+    for at in CHANGES {
+        try_changed(to, old, at)?;
+    }
     try_behind(to, old, changed(old, 1533), 9216)?;
     try_behind(to, old, old, 612)?;
-    try_again(to, old)
+    try_again(to, old)?;
+    for (number, tag, length) in RECORDS {
+        try_from(to, old, number, tag, length)?;
+    }
+    Ok(())
 }
 
 fn main(rt: HostRuntime) -> Result<()> {
-    let mut old = [0u8; 9316];
+    let mut old = [0; 9316];
     let n = read_full(&mut rt.stdin(), &mut old)?;
     let mut output = rt.stdout();
-    print_number(&mut output, b"", n as u64, b" bytes\n")?;
-    try_edges(&mut output, old)?;
-    try_stops(&mut output, old)?;
-    try_from(&mut output, old, u64::MAX, u32::MAX, 512)?;
-    try_from(&mut output, old, 18446744073709551614, 4294967294, 1024)?;
-    try_from(&mut output, old, 4294967295, u32::MAX, 1024)?;
-    try_from(&mut output, old, u64::MAX, u32::MAX, 511)?;
-    // the one tag of 1 to 65,535 at which the new check is the old one
-    try_from(&mut output, old, 39359, 39359, 512)
+    writeln!(output, "{n} bytes")?;
+    try_all(&mut output, old)
 }

@@ -12,7 +12,8 @@ use mock_base::error::MockAnswer;
 use mock_effects::SessionStep;
 use mock_session::bulk::{look, read_bulk, start, write_bulk};
 use mock_session::record::fresh;
-use mock_table::session::{CommandState, LastReset, Session};
+use mock_table::session::{CommandState, Session};
+use rule_number::RuleNumber;
 use std::io::{Result, Write};
 
 // A start of a record that stands in a local and is lent for the time of the call.
@@ -20,10 +21,7 @@ fn lent_start(mut session: Session, flash: &[u8]) -> SessionStep
     ensures { StepMeets result [] (start_step session (length flash.now)) }
 {
     let answer = start(&mut session, flash);
-    SessionStep {
-        answer: answer,
-        session: session,
-    }
+    SessionStep { answer, session }
 }
 
 // A look at such a record.
@@ -38,10 +36,7 @@ fn lent_write(mut session: Session, flash: &mut [u8], data: &[u8]) -> SessionSte
     ensures { StepMeets result flash.new (write_step session flash.old «data».now) }
 {
     let answer = write_bulk(&mut session, flash, data);
-    SessionStep {
-        answer: answer,
-        session: session,
-    }
+    SessionStep { answer, session }
 }
 
 // One bulk read over such a record.
@@ -54,100 +49,57 @@ fn lent_read(
     ensures { StepMeets result «data».new (read_step session config flash.old «data».old) × (flash.new ≡ flash.old) }
 {
     let answer = read_bulk(&mut session, config, flash, data);
-    SessionStep {
-        answer: answer,
-        session: session,
-    }
-}
-
-fn print<W: Write>(to: &mut W, text: &[u8]) -> Result<()> {
-    to.write_all(text)
-}
-
-fn print_byte<W: Write>(to: &mut W, byte: u8) -> Result<()> {
-    write!(to, "{byte:02x}")
-}
-
-fn print_all<W: Write>(to: &mut W, bytes: &[u8]) -> Result<()> {
-    for i in 0..bytes.len() {
-        print_byte(to, bytes[i])?;
-    }
-    Ok(())
-}
-
-fn print_first<W: Write>(to: &mut W, at: usize, byte: u8) -> Result<()> {
-    if at % 512 == 0 {
-        print(to, b" ")?;
-        print_byte(to, byte)?;
-    }
-    Ok(())
+    SessionStep { answer, session }
 }
 
 // The first byte of each sector.
 fn print_sectors<W: Write>(to: &mut W, bytes: &[u8]) -> Result<()> {
-    for i in 0..bytes.len() {
-        print_first(to, i, bytes[i])?;
+    for sector in bytes.chunks(512) {
+        if let Some(byte) = sector.first() {
+            write!(to, " {byte:02x}")?;
+        }
     }
-    Ok(())
-}
-
-fn answer_number(answer: MockAnswer) -> u8 {
-    let result = answer.result;
-    result.number()
+    writeln!(to)
 }
 
 // What was called, and the number that came back.
-fn print_call<W: Write>(to: &mut W, name: &[u8], answer: MockAnswer) -> Result<()> {
-    print(to, name)?;
-    write!(to, " {}", answer_number(answer))
+fn print_call<W: Write>(to: &mut W, name: &str, answer: MockAnswer) -> Result<()> {
+    write!(to, "{name} {}", answer.result.number())
 }
 
-fn print_plain<W: Write>(to: &mut W, name: &[u8], answer: MockAnswer) -> Result<()> {
-    print_call(to, name, answer)?;
-    print(to, b"\n")
-}
-
-fn print_transaction<W: Write>(to: &mut W, state: CommandState) -> Result<()> {
+fn state_name(state: CommandState) -> &'static str {
     match state {
-        CommandState::None => print(to, b"none"),
-        CommandState::IO(_) => print(to, b"awaiting data"),
-        CommandState::Status(_, _) => print(to, b"awaiting status"),
+        CommandState::None => "none",
+        CommandState::IO(_) => "awaiting data",
+        CommandState::Status(_, _) => "awaiting status",
     }
-}
-
-fn print_reset<W: Write>(to: &mut W, reset: LastReset) -> Result<()> {
-    match reset {
-        LastReset::None => print(to, b"none"),
-        LastReset::Some(opcode) => write!(to, "{}", opcode.number()),
-    }
-}
-
-fn print_record<W: Write>(to: &mut W, session: Session) -> Result<()> {
-    let state = session.current_command;
-    let reset = session.last_reset;
-    print(to, b"transaction ")?;
-    print_transaction(to, state)?;
-    print(to, b", last reset ")?;
-    print_reset(to, reset)?;
-    print(to, b"\n")
 }
 
 // The record's line, of what a look at it sees.
 fn show<W: Write>(to: &mut W, session: Session) -> Result<()> {
-    print_record(to, lent_look(session))
+    let seen = lent_look(session);
+    write!(
+        to,
+        "transaction {}, last reset ",
+        state_name(seen.current_command)
+    )?;
+    match seen.last_reset {
+        None => writeln!(to, "none"),
+        Some(opcode) => writeln!(to, "{}", u8::from(opcode)),
+    }
 }
 
 // A bulk write, with its line.
 fn send<W: Write>(
     to: &mut W,
-    name: &[u8],
+    name: &str,
     session: Session,
     flash: &mut [u8],
     data: &[u8],
 ) -> Result<SessionStep> {
     let step = lent_write(session, flash, data);
-    let answer = step.answer;
-    print_plain(to, name, answer)?;
+    print_call(to, name, step.answer)?;
+    writeln!(to)?;
     Ok(step)
 }
 
@@ -155,11 +107,12 @@ fn send<W: Write>(
 fn settle<W: Write>(to: &mut W, session: Session, flash: &mut [u8]) -> Result<Session> {
     let mut status = [0u8; 13];
     let step = lent_read(session, MockDeviceConfig::default(), flash, &mut status);
-    let answer = step.answer;
-    print_call(to, b"status in", answer)?;
-    print(to, b" ")?;
-    print_all(to, &status)?;
-    print(to, b"\n")?;
+    print_call(to, "status in", step.answer)?;
+    write!(to, " ")?;
+    for byte in status {
+        write!(to, "{byte:02x}")?;
+    }
+    writeln!(to)?;
     Ok(step.session)
 }
 
@@ -167,16 +120,9 @@ fn settle<W: Write>(to: &mut W, session: Session, flash: &mut [u8]) -> Result<Se
 fn receive<W: Write>(to: &mut W, session: Session, flash: &mut [u8]) -> Result<SessionStep> {
     let mut data = [0u8; 1024];
     let step = lent_read(session, MockDeviceConfig::default(), flash, &mut data);
-    let answer = step.answer;
-    print_call(to, b"data in", answer)?;
+    print_call(to, "data in", step.answer)?;
     print_sectors(to, &data)?;
-    print(to, b"\n")?;
     Ok(step)
-}
-
-fn is_refused(step: SessionStep) -> bool {
-    let answer = step.answer;
-    answer_number(answer) != 0
 }
 
 // Command out, data out, status in; a refusal ends the command.
@@ -186,13 +132,13 @@ fn write<W: Write>(
     flash: &mut [u8],
     command: &[u8],
 ) -> Result<Session> {
-    let told = send(to, b"command out", session, flash, command)?;
-    if is_refused(told) {
+    let told = send(to, "command out", session, flash, command)?;
+    if told.answer.result.is_err() {
         return Ok(told.session);
     }
     let data = [0xA5u8; 512];
-    let moved = send(to, b"data out", told.session, flash, &data)?;
-    if is_refused(moved) {
+    let moved = send(to, "data out", told.session, flash, &data)?;
+    if moved.answer.result.is_err() {
         return Ok(moved.session);
     }
     settle(to, moved.session, flash)
@@ -205,12 +151,12 @@ fn read<W: Write>(
     flash: &mut [u8],
     command: &[u8],
 ) -> Result<Session> {
-    let told = send(to, b"command out", session, flash, command)?;
-    if is_refused(told) {
+    let told = send(to, "command out", session, flash, command)?;
+    if told.answer.result.is_err() {
         return Ok(told.session);
     }
     let moved = receive(to, told.session, flash)?;
-    if is_refused(moved) {
+    if moved.answer.result.is_err() {
         return Ok(moved.session);
     }
     settle(to, moved.session, flash)
@@ -223,8 +169,8 @@ fn plain<W: Write>(
     flash: &mut [u8],
     command: &[u8],
 ) -> Result<Session> {
-    let told = send(to, b"command out", session, flash, command)?;
-    if is_refused(told) {
+    let told = send(to, "command out", session, flash, command)?;
+    if told.answer.result.is_err() {
         return Ok(told.session);
     }
     settle(to, told.session, flash)
@@ -233,8 +179,8 @@ fn plain<W: Write>(
 // A start, with its line and that of the record after it.
 fn begin<W: Write>(to: &mut W, session: Session, flash: &[u8]) -> Result<Session> {
     let step = lent_start(session, flash);
-    let answer = step.answer;
-    print_plain(to, b"start", answer)?;
+    print_call(to, "start", step.answer)?;
+    writeln!(to)?;
     show(to, step.session)?;
     Ok(step.session)
 }
@@ -279,7 +225,7 @@ fn open<W: Write>(to: &mut W, session: Session, flash: &mut [u8]) -> Result<Sess
     // WriteLBA, tag 6: 512 bytes out, sector 0, count 1
     let block =
         b"USBC\x00\x00\x00\x06\x00\x02\x00\x00\x00\x00\x0A\x15\x00\x00\x00\x00\x00\x00\x00\x01\x00\x00\x00\x00\x00\x00\x00";
-    let told = send(to, b"command out", session, flash, block)?;
+    let told = send(to, "command out", session, flash, block)?;
     show(to, told.session)?;
     Ok(told.session)
 }
@@ -297,7 +243,6 @@ fn main(rt: HostRuntime) -> Result<()> {
     let odd = [0x11u8; 700];
     let kept = begin(&mut output, opened, &odd)?;
     begin(&mut output, kept, &flash)?;
-    print(&mut output, b"flash")?;
-    print_sectors(&mut output, &flash)?;
-    print(&mut output, b"\n")
+    write!(output, "flash")?;
+    print_sectors(&mut output, &flash)
 }

@@ -5,11 +5,12 @@
 
 use operation::starts::write_lba;
 use operation::steps::{UsbOperation, UsbStep};
-use operation_finish::{FinishAnswer, SectorTransfer, UsbReply};
+use operation_finish::{SectorTransfer, UsbReply};
 use replay_lines::buffer::first;
 use replay_lines::input::Input;
 use replay_lines::tokens::Tokens;
-use std::io::{Result, Write};
+use rule_number::{OutOfSteps, RuleNumber};
+use std::io::{Read, Result, Write};
 
 // the sector data that there is to lend
 const ROOM: usize = 65536;
@@ -20,9 +21,6 @@ const STATUS: usize = 13;
 // no write has more steps than command, data, status and finish
 const STEPS: usize = 4;
 
-// "out of steps"
-const OUT_OF_STEPS: u8 = 28;
-
 // What a line says: the tag, the bytes asked, and how many bytes of status came.
 #[derive(Clone, Copy)]
 struct Asked {
@@ -31,68 +29,27 @@ struct Asked {
     came: usize,
 }
 
-// A step of an operation, and the operation after it.
-#[derive(Clone, Copy)]
-struct Turned {
-    step: UsbStep,
-    next: UsbOperation,
-}
-
 fn print_refused<W: Write>(to: &mut W, number: u8) -> Result<()> {
     writeln!(to, "refused: {number}")
 }
 
-fn print_transfer<W: Write>(to: &mut W, transfer: SectorTransfer) -> Result<()> {
-    match transfer {
-        SectorTransfer::Whole(moved) => {
-            let moved = moved.0;
-            writeln!(to, "whole: {moved} bytes moved")
+fn print_reply<W: Write>(to: &mut W, reply: UsbReply) -> Result<()> {
+    match reply {
+        UsbReply::Sectors(SectorTransfer::Whole(moved)) => {
+            writeln!(to, "whole: {} bytes moved", moved.0)
         }
-        SectorTransfer::Short(short) => {
-            let moved = short.moved.0;
-            let asked = short.asked.0;
-            writeln!(to, "short: {moved} of {asked} bytes moved")
-        }
-    }
-}
-
-fn print_last<W: Write>(to: &mut W, step: UsbStep) -> Result<()> {
-    let number = step.number();
-    let UsbStep::Finished(answer) = step else {
-        return print_refused(to, number);
-    };
-    let FinishAnswer::Replied(reply) = answer else {
-        return print_refused(to, number);
-    };
-    let UsbReply::Sectors(transfer) = reply else {
+        UsbReply::Sectors(SectorTransfer::Short(short)) => writeln!(
+            to,
+            "short: {} of {} bytes moved",
+            short.moved.0, short.asked.0
+        ),
         // a write has no other reply
-        return to.write_all(b"no transfer\n");
-    };
-    print_transfer(to, transfer)
-}
-
-// The finish, or a refusal.
-fn is_last(step: UsbStep) -> bool {
-    match step {
-        UsbStep::Finished(_) => true,
-        _ => step.number() != 0,
+        _ => writeln!(to, "no transfer"),
     }
 }
 
-// A step, and the status where it asks for that; a host would send the command and the data here. A status of at most 13 bytes is always taken.
-fn turn(operation: UsbOperation, status: &[u8], sectors: &mut [u8; 65536]) -> Turned {
-    let mut out = [0u8; 31];
-    let done = operation.step(sectors, &mut out);
-    let step = done.step;
-    let next = done.next;
-    let UsbStep::ReadStatus(_) = step else {
-        return Turned { step, next };
-    };
-    let given = next.give(status, sectors);
-    let next = given.next;
-    Turned { step, next }
-}
-
+// Step after step, with the status where one asks for that; a host would send the command and the data here. A status of at most 13 bytes is always
+// taken.
 fn carry_out<W: Write>(
     to: &mut W,
     operation: UsbOperation,
@@ -100,15 +57,18 @@ fn carry_out<W: Write>(
     sectors: &mut [u8; 65536],
 ) -> Result<()> {
     let mut next = operation;
+    let mut out = [0; 31];
     for _ in 0..STEPS {
-        let done = turn(next, status, sectors);
-        let step = done.step;
-        if is_last(step) {
-            return print_last(to, step);
-        }
+        let done = next.step(sectors, &mut out);
         next = done.next;
+        match done.step {
+            Ok(UsbStep::Finished(reply)) => return print_reply(to, reply),
+            Ok(UsbStep::ReadStatus(_)) => next = next.give(status, sectors).next,
+            Ok(_) => {}
+            Err(error) => return print_refused(to, error.number()),
+        }
     }
-    print_refused(to, OUT_OF_STEPS)
+    print_refused(to, OutOfSteps.number())
 }
 
 fn tell<W: Write>(
@@ -118,21 +78,20 @@ fn tell<W: Write>(
     sectors: &mut [u8; 65536],
 ) -> Result<()> {
     let start = write_lba(asked.tag, 0, asked.size);
-    let number = start.answer.number();
-    if number != 0 {
-        return print_refused(to, number);
+    if let Err(error) = start.answer {
+        return print_refused(to, error.number());
     }
     if asked.size > ROOM {
-        return to.write_all(b"not tried: above 65536 bytes\n");
+        return writeln!(to, "not tried: above 65536 bytes");
     }
-    carry_out(to, start.operation, first(asked.came, status), sectors)
+    carry_out(to, start.operation, status, sectors)
 }
 
-// `TAG ASKED STATUS`, the status spelled out, to a lent buffer.
+// `TAG ASKED STATUS`
 fn read_line(line: &[u8], status: &mut [u8]) -> Option<Asked> {
     let mut tokens = Tokens::new(line);
     let tag = u32::try_from(tokens.first_number()?).ok()?;
-    let size = tokens.at_most(usize::MAX)?;
+    let size = usize::try_from(tokens.u64()?).ok()?;
     tokens.gap()?;
     if tokens.byte()? != b'x' {
         return None;
@@ -147,25 +106,33 @@ fn read_line(line: &[u8], status: &mut [u8]) -> Option<Asked> {
 }
 
 fn answer_line<W: Write>(to: &mut W, line: &[u8], sectors: &mut [u8; 65536]) -> Result<()> {
-    let mut status = [0u8; 13];
+    let mut status = [0; 13];
     match read_line(line, &mut status) {
-        Some(asked) => tell(to, asked, &status, sectors),
-        None => to.write_all(b"unreadable line\n"),
+        Some(asked) => tell(to, asked, first(asked.came, &status), sectors),
+        None => writeln!(to, "unreadable line"),
     }
 }
 
-fn main(rt: HostRuntime) -> Result<()> {
-    let mut block = [0u8; 65536];
-    let mut line = [0u8; 127];
-    let mut sectors = [0u8; 65536];
-    let mut to = rt.stdout();
-    let mut input = Input::new(rt.stdin(), &mut block);
-    // a proved loop has to end, and nothing says that the input does: no run uses up so many turns
+// A proved loop has to end, and nothing says that the input does: no run uses up so many turns.
+fn run<R: Read + Drop, W: Write>(
+    from: R,
+    to: &mut W,
+    block: &mut [u8],
+    sectors: &mut [u8; 65536],
+) -> Result<()> {
+    let mut input = Input::new(from, block);
+    let mut line = [0; 127];
     for _ in 0..u64::MAX {
         let Some(line) = input.next_line(&mut line) else {
             break;
         };
-        answer_line(&mut to, line, &mut sectors)?;
+        answer_line(to, line, sectors)?;
     }
     Ok(())
+}
+
+fn main(rt: HostRuntime) -> Result<()> {
+    let mut block = [0; 65536];
+    let mut sectors = [0; 65536];
+    run(rt.stdin(), &mut rt.stdout(), &mut block, &mut sectors)
 }

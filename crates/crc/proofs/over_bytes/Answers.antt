@@ -4,11 +4,11 @@ use Rattle.crc.specs.Check.{crc_over}
 use Rattle.crc.proofs.Laws.{over_next, over_past}
 use Rattle.crc.proofs.over_bytes.Goals as goal
 
-pub loop-i-preserved : goal.loop-i-preserved
-loop-i-preserved c =
-    let l = c.loop-i in
+pub loop-byte-preserved : goal.loop-byte-preserved
+loop-byte-preserved c =
+    let l = c.loop-byte in
     let s = c.args.bytes.now in
-    (omega arith, ap (λ (r : ℕ). crc_over r (drop (l.i + 1) s)) c.byte_step-c.ensures ∙ sym (over_next l.c l.i s (omega arith)) ∙ l.invariant.1)
+    ap (λ (r : ℕ). crc_over r (drop (l.byte-index + 1) s)) c.byte_step-c.ensures ∙ sym (over_next l.c l.byte-index s (omega arith)) ∙ l.invariant
 
 pub returns : goal.returns
-returns c = sym (over_past c.loop-i.c c.loop-i.i c.args.bytes.now (omega arith)) ∙ c.loop-i.invariant.1
+returns c = sym (over_past c.loop-byte.c c.loop-byte.byte-index c.args.bytes.now (omega arith)) ∙ c.loop-byte.invariant

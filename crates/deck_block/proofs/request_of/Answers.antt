@@ -1,6 +1,7 @@
 -- Each arm is the definition at its kind; the last is what is none of the others.
 use mathlib.Core.Path.{ap}
-use borrow.Author.Tests.{ne_eqb}
+use Rattle.std.proofs.Common.{rules, arith}
+use Rattle.std.proofs.lemmas.Bool.Decides.{nat_tests}
 use Rattle.promise.specs.Told.{given}
 use Rattle.deck_block.specs.Reading.{card_told, request_of}
 use Rattle.deck_block.proofs.request_of.Goals as goal
@@ -37,9 +38,13 @@ pub returns-in-8 : goal.returns-in-8
 unfolding card_told request_of
 returns-in-8 c = rw c.in-8.is
 
-pub returns-in-9 : goal.returns-in-9
+pub returns-in_err-request-in-9 : goal.returns-in_err-request-in-9
 unfolding card_told request_of
-returns-in-9 c = rw c.in-9.is c.reset_request.ensures
+returns-in_err-request-in-9 c = rw c.in-9.is (search rules)
+
+pub returns-in_ok-request-in-9 : goal.returns-in_ok-request-in-9
+unfolding card_told request_of
+returns-in_ok-request-in-9 c = rw c.in-9.is c.in_ok-request-in-9.ensures
 
 pub returns-in-10 : goal.returns-in-10
 unfolding card_told request_of
@@ -47,23 +52,8 @@ returns-in-10 c = rw c.in-10.is
 
 pub returns-in-11 : goal.returns-in-11
 unfolding card_told request_of
-returns-in-11 c = rw c.in-11.is (ap given c.switch_request.ensures)
+returns-in-11 c = rw c.in-11.is (ap given c.switch_request-request.ensures)
 
 pub returns-in_default : goal.returns-in_default
 unfolding card_told request_of
-returns-in_default c =
-    let k = c.args.f.kind in
-    let n = c.in_default.in_default-own.rest in
-    rw (
-      ne_eqb k 1 n.0.0.0.0.0.0.0.0.0.0.1,
-      ne_eqb k 2 n.0.0.0.0.0.0.0.0.0.1,
-      ne_eqb k 3 n.0.0.0.0.0.0.0.0.1,
-      ne_eqb k 4 n.0.0.0.0.0.0.0.1,
-      ne_eqb k 5 n.0.0.0.0.0.0.1,
-      ne_eqb k 6 n.0.0.0.0.0.1,
-      ne_eqb k 7 n.0.0.0.0.1,
-      ne_eqb k 8 n.0.0.0.1,
-      ne_eqb k 9 n.0.0.1,
-      ne_eqb k 10 n.0.1,
-      ne_eqb k 11 n.1,
-    )
+returns-in_default c = grind (arith, nat_tests)

@@ -1,23 +1,21 @@
 -- Each arm is the definition at its kind.
-use borrow.Author.Tests.{ne_eqb}
+use Rattle.std.proofs.Common.{arith}
+use Rattle.std.proofs.lemmas.Bool.Decides.{nat_tests}
 use Rattle.deck_block.specs.Block.{too_large}
 use Rattle.deck_block.proofs.too_large.Goals as goal
 
 pub returns-in-7 : goal.returns-in-7
 unfolding too_large
-returns-in-7 c = rw c.in-7.is
-
-pub returns-in-8 : goal.returns-in-8
-unfolding too_large
-returns-in-8 c = rw c.in-8.is
+returns-in-7 c = grind (arith, nat_tests)
 
 pub returns-in-12 : goal.returns-in-12
 unfolding too_large
-returns-in-12 c = rw c.in-12.is
+returns-in-12 c = grind (arith, nat_tests)
 
 pub returns-in_default : goal.returns-in_default
 unfolding too_large
-returns-in_default c =
-    let k = c.args.f.kind in
-    let n = c.in_default.in_default-own.rest in
-    rw (ne_eqb k 7 n.0.0.1, ne_eqb k 8 n.0.1, ne_eqb k 12 n.1)
+returns-in_default c = grind (arith, nat_tests)
+
+pub returns-in_default-2 : goal.returns-in_default-2
+unfolding too_large
+returns-in_default-2 c = grind (arith, nat_tests)

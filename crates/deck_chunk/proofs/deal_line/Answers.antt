@@ -12,7 +12,7 @@ returns c =
     let dealt = c.deal-step in
     let m = dealt.ensures in
     record {
-      text = c.line_of-line.ensures ∙ ap₂ (λ (n : ℕ) (t : Told Reply). line (line_text n t)) m.number m.tells;
+      text = c.line_of.ensures ∙ ap₂ (λ (n : ℕ) (t : Told Reply). line (line_text n t)) m.number m.tells;
       counted = ap₂ (λ (n t : ℕ). bench_at dealt.result.bench.device n t) m.number m.tag;
       leaves = m.leaves;
     }

@@ -1,12 +1,14 @@
 -- The line's bytes stand behind the others: there is room for the longest.
-use Prim.Native.Nat.{◌-◌, ◌≤◌}
-use mathlib.Core.Path.{◌≡◌, refl, sym}
+use Prim.Native.Nat.{ℕ, ◌+◌, ◌-◌, ◌≤◌}
+use mathlib.Core.List.{List}
+use mathlib.Core.Path.{◌≡◌, refl, ap, sym, ◌∙◌}
 use native.Mathlib.Omega.{arith}
-use lib.ListN.{length, take, length-take, length-drop}
+use lib.ListN.{length, take}
 use lib.Seq.{length-take-le}
 use borrow.Author.Rules.{rules}
 use Rattle.deck_line.specs.Line.{longest_line}
-use Rattle.promise.proofs.Copied.{copied}
+use Rattle.promise.specs.Over.{over}
+use Rattle.promise.proofs.Copied.{put_over}
 use Rattle.deck_chunk.proofs.put_line.Goals as goal
 use Rattle.deck_chunk.proofs.put_line.Goals.{Start}
 
@@ -17,24 +19,15 @@ used c = let room : length c.args.line.bytes ≡ longest_line = search rules in 
 lent : (c : Start) → length (take c.args.line.used c.args.line.bytes) ≡ c.args.line.used
 lent c = length-take-le c.args.line.used c.args.line.bytes (used c)
 
-pub slice_bounds-text-end : goal.slice_bounds-text-end
-slice_bounds-text-end c = used (goal.at.slice_bounds-text-end c).Start
-
-pub slice_bounds-copy-end : goal.slice_bounds-copy-end
-slice_bounds-copy-end c = sym (lent (goal.at.slice_bounds-copy-end c).Start)
-
-pub copy-requires : goal.copy-requires
-copy-requires c =
-    let n = lent (goal.at.copy-requires c).Start in
-    simp (length-take, length-drop) (omega (arith, c.requires.0, c.requires.1))
-
 pub returns : goal.returns
 returns c =
-    let buffer = c.args.lines.now in
-    let at = c.args.at in
-    let text = take c.args.line.used c.args.line.bytes in
+    let a = c.args in
+    let copy = c.copy_from_slice in
     let n = lent (goal.at.returns c).Start in
+    let k : a.at + a.line.used - a.at ≡ a.line.used = omega arith in
     record {
       value = refl;
-      lines_after = copied at (length buffer - at) text buffer c.copy.new.to (omega (arith, c.requires.0, c.requires.1)) (omega (arith, c.requires.0, c.requires.1)) c.copy.ensures.after;
+      lines_after =
+          put_over a.at (a.at + a.line.used - a.at) a.lines.now copy.new.self (ap length copy.ensures.after ∙ n ∙ sym k)
+          ∙ ap (λ (l : List ℕ). over a.at l a.lines.now) copy.ensures.after;
     }

@@ -15,13 +15,6 @@ returns-then-file-place c =
     let past : length a.file.now < a.place + a.length = omega arith in
     rw (lt-ltb (length a.file.now) (a.place + a.length) past) refl
 
-pub returns-then-file-place-2 : goal.returns-then-file-place-2
-unfolding data_of
-returns-then-file-place-2 c =
-    let a = c.args in
-    let past : length a.file.now < a.place + a.length = omega arith in
-    rw (lt-ltb (length a.file.now) (a.place + a.length) past) refl
-
 pub returns : goal.returns
 unfolding data_of
 returns c =

@@ -15,7 +15,7 @@ pub returns-in-Check : goal.returns-in-Check
 unfolding moves_at
 returns-in-Check c =
     let a = c.args in
-    let p = c.with_check-size in
+    let p = c.with_check in
     at_steps (record { size = p.result; crc = a.crc; steps = Done }) a.out.now p.new.out a.crc a.bytes.now c.in-Check.is
     (meets p.result a.crc a.crc Done (check_bytes a.crc) a.out.now p.new.out p.ensures refl)
 
@@ -23,7 +23,7 @@ pub returns-in-Dummy : goal.returns-in-Dummy
 unfolding moves_at
 returns-in-Dummy c =
     let a = c.args in
-    let p = c.with_zero-size in
+    let p = c.with_zero in
     at_steps (record { size = p.result; crc = a.crc; steps = Done }) a.out.now p.new.out a.crc a.bytes.now c.in-Dummy.is
     (meets p.result a.crc a.crc Done (0 ∷ []) a.out.now p.new.out p.ensures refl)
 

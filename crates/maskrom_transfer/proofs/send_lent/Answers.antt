@@ -2,7 +2,6 @@
 use Rattle.std.proofs.Common.{◌≡◌, ℕ, List, length, take, min, refl, ap, subst, ◌∙◌, arith}
 use Rattle.promise.specs.Told.{given}
 use Rattle.promise.specs.Does.{does}
-use Rattle.maskrom_transfer.specs.declared.Moved.{Moved}
 use Rattle.maskrom_transfer.specs.Moves.{moves_at}
 use Rattle.maskrom_transfer.specs.Code.{SendMeets}
 use Rattle.maskrom_transfer.specs.Sending.{sent_told, moved}
@@ -17,10 +16,10 @@ returns c =
     let l = a.bytes.now in
     let w = take 4096 l in
     let to = moves_at a.steps a.crc w in
-    let p = c.send_at-to in
-    let e : c.least-left.result ≡ min 4096 (length l) = omega (arith, c.least-left.ensures) in
-    let same : take c.least-left.result l ≡ w = ap (λ (n : ℕ). take n l) e ∙ take_min 4096 l in
+    let p = c.send_at in
+    let e : c.min-left.result ≡ min 4096 (length l) = omega (arith, c.min-left.ensures) in
+    let same : take c.min-left.result l ≡ w = ap (λ (n : ℕ). take n l) e ∙ take_min 4096 l in
     let m : SendMeets p.result a.out.now p.new.out to =
     subst (λ (k : List ℕ). SendMeets p.result a.out.now p.new.out (moves_at a.steps a.crc k)) same p.ensures in
     acts (does (moved to) to.bytes tt) (send_acts a.steps a.crc w (length a.out.now) c.if-out-lt-BLOCK.false)
-    (ap (λ (r : Moved). given r) (moved_is p.result a.out.now p.new.out to m)) refl m.leaves
+    (ap given (moved_is p.result a.out.now p.new.out to m)) refl m.leaves

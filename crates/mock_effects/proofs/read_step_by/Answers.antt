@@ -23,9 +23,9 @@ returns-in_default c =
 
 pub apply_to_buffer-requires : goal.apply_to_buffer-requires
 apply_to_buffer-requires c =
-    let sectors = c.in-Whole.sectors in
+    let sectors = c.in-Ok.sectors in
     let f = c.flash_sectors-size in
-    let h = taken (length c.args.flash.now) sectors (whole f.result (length c.args.flash.now) f.ensures sectors c.in-Whole.is) in
+    let h = taken (length c.args.flash.now) sectors (whole f.result (length c.args.flash.now) f.ensures sectors c.in-Ok.is) in
     let fits : EffectFits (length c.args.flash.now / sector_size) (length c.args.«data».now) c.read_outcome-outcome.result.effect =
     rw (h.0, c.read_outcome-outcome.ensures.effect) (read_sane c.args.variety c.args.session sectors (length c.args.«data».now)).fits in
     (omega (arith, h.0, h.1), fits)
@@ -33,10 +33,10 @@ apply_to_buffer-requires c =
 pub returns : goal.returns
 unfolding read_step_by read_step_of
 returns c =
-    let sectors = c.in-Whole.sectors in
+    let sectors = c.in-Ok.sectors in
     let f = c.flash_sectors-size in
     let m = c.read_outcome-outcome.ensures in
-    rw (whole f.result (length c.args.flash.now) f.ensures sectors c.in-Whole.is)
+    rw (whole f.result (length c.args.flash.now) f.ensures sectors c.in-Ok.is)
     (record {
       tells = m.tells;
       next = m.next;

@@ -22,9 +22,9 @@ returns-in_default c =
 
 pub apply_to_flash-pending-requires : goal.apply_to_flash-pending-requires
 apply_to_flash-pending-requires c =
-    let sectors = c.in-Whole.sectors in
+    let sectors = c.in-Ok.sectors in
     let f = c.flash_sectors-size in
-    let h = taken (length c.args.flash.now) sectors (whole f.result (length c.args.flash.now) f.ensures sectors c.in-Whole.is) in
+    let h = taken (length c.args.flash.now) sectors (whole f.result (length c.args.flash.now) f.ensures sectors c.in-Ok.is) in
     let fits : EffectFits (length c.args.flash.now / sector_size) (length c.args.«data».now) c.write_outcome-outcome.result.effect =
     rw (h.0, c.write_outcome-outcome.ensures.effect) (write_sane c.args.variety c.args.block_size c.args.session sectors c.args.«data».now).fits in
     fits
@@ -32,13 +32,13 @@ apply_to_flash-pending-requires c =
 pub returns : goal.returns
 unfolding write_step_by write_step_of
 returns c =
-    let sectors = c.in-Whole.sectors in
+    let sectors = c.in-Ok.sectors in
     let f = c.flash_sectors-size in
     let m = c.write_outcome-outcome.ensures in
     let p = c.apply_to_flash-pending.ensures in
     let bytes = c.args.«data».now in
     let flash = c.args.flash.now in
-    rw (whole f.result (length c.args.flash.now) f.ensures sectors c.in-Whole.is)
+    rw (whole f.result (length c.args.flash.now) f.ensures sectors c.in-Ok.is)
     (record {
       tells = m.tells;
       next = c.pended.ensures ∙ ap₂ pended (p.0 ∙ ap (λ (x : Effect). pending_after x bytes flash) m.effect) m.next;

@@ -9,7 +9,7 @@ use Rattle.mock_base.specs.Told.{error_number, error_values}
 use Rattle.mock_base.specs.declared.error.MockTransportError.TheVariants as error
 use Rattle.operation.specs.Record.{transfer_length}
 use Rattle.promise.specs.Run.{runs}
-use Rattle.run_turn.specs.declared.Stop.TheVariants as stop
+use Rattle.run_turn.specs.declared.StopError.TheVariants as stop
 use Rattle.run_turn.specs.Turn.{usb_state, is_write, lent_to, usb_turn}
 use Rattle.run_operation.specs.Run.{sector_data, unstarted, usb_run}
 use Rattle.run_operation.specs.Code.{unstarted_by}
@@ -17,16 +17,16 @@ use Rattle.run_operation.proofs.Checks.{device_unstarted, data_unstarted, flash_
 use Rattle.promise.specs.Rules.{differs}
 use Rattle.run_operation.proofs.run_over.Goals as goal
 
-pub returns-in-Refused : goal.returns-in-Refused
-returns-in-Refused c =
+pub returns-in-Err : goal.returns-in-Err
+returns-in-Err c =
     let a = c.args in
     let lent = lent_to a.operation.kind a.source.now a.room.now in
     let s = usb_state a.operation a.device a.flash.now lent in
-    let e = c.in-Refused.error in
+    let e = c.in-Err.error in
     as_run c.unstarted.result (unstarted_by (stop.Device e) a.operation a.device) a.flash.now lent (usb_run s a.store a.budget)
     (unstarted s (error_number e) (error_values e no_signature)) c.unstarted.ensures
     (flash_refused s a.store a.budget e
-    (refused_size c.flash_sectors-sectors.result (length a.flash.now) e c.flash_sectors-sectors.ensures c.in-Refused.is))
+    (refused_size c.flash_sectors.result (length a.flash.now) e c.flash_sectors.ensures c.in-Err.is))
     (device_unstarted a.operation a.device a.flash.now lent e)
 
 pub returns-then-store-device : goal.returns-then-store-device
@@ -35,7 +35,7 @@ returns-then-store-device c =
     let a = c.args in
     let lent = lent_to a.operation.kind a.source.now a.room.now in
     let s = usb_state a.operation a.device a.flash.now lent in
-    let h = whole_size c.flash_sectors-sectors.result (length a.flash.now) c.in_default.field-0 c.flash_sectors-sectors.ensures c.in_default.is in
+    let h = whole_size c.flash_sectors.result (length a.flash.now) c.in_default.field-0 c.flash_sectors.ensures c.in_default.is in
     as_run c.unstarted-then-store-device.result (unstarted_by (stop.Device error.StoreLength) a.operation a.device) a.flash.now lent (usb_run s a.store a.budget)
     (unstarted s 65 []) c.unstarted-then-store-device.ensures
     (store_refused s a.store a.budget c.in_default.field-0 h c.if-store-device.true)
@@ -46,7 +46,7 @@ returns-then-lent_length-sector_data c =
     let a = c.args in
     let lent = lent_to a.operation.kind a.source.now a.room.now in
     let s = usb_state a.operation a.device a.flash.now lent in
-    let h = whole_size c.flash_sectors-sectors.result (length a.flash.now) c.in_default.field-0 c.flash_sectors-sectors.ensures c.in_default.is in
+    let h = whole_size c.flash_sectors.result (length a.flash.now) c.in_default.field-0 c.flash_sectors.ensures c.in_default.is in
     let long : c.lent_length.result ≡ length lent =
     c.lent_length.ensures ∙ sym (length_picked (is_write a.operation.kind) a.source.now a.room.now) in
     let wanted : c.sector_data.result ≡ sector_data a.operation.kind (transfer_length a.operation) = c.sector_data.ensures in
@@ -61,7 +61,7 @@ returns c =
     let a = c.args in
     let lent = lent_to a.operation.kind a.source.now a.room.now in
     let s = usb_state a.operation a.device a.flash.now lent in
-    let h = whole_size c.flash_sectors-sectors.result (length a.flash.now) c.in_default.field-0 c.flash_sectors-sectors.ensures c.in_default.is in
+    let h = whole_size c.flash_sectors.result (length a.flash.now) c.in_default.field-0 c.flash_sectors.ensures c.in_default.is in
     let long : c.lent_length.result ≡ length lent =
     c.lent_length.ensures ∙ sym (length_picked (is_write a.operation.kind) a.source.now a.room.now) in
     let wanted : c.sector_data.result ≡ sector_data a.operation.kind (transfer_length a.operation) = c.sector_data.ensures in

@@ -14,9 +14,9 @@ returns-then-is_write c =
     subst (λ (b : Bool). StepMeets c.step.result a.out.now c.step.new.out (usb_step a.operation (length (pick b a.source.now a.room.now)) (length a.out.now))) (sym e)
     c.step.ensures
 
-pub returns : goal.returns
-returns c =
+pub returns-else-is_write : goal.returns-else-is_write
+returns-else-is_write c =
     let a = c.args in
     let e : is_write a.operation.kind ≡ false = sym c.is_write.ensures ∙ c.if-is_write.false in
-    subst (λ (b : Bool). StepMeets c.step-2.result a.out.now c.step-2.new.out (usb_step a.operation (length (pick b a.source.now a.room.now)) (length a.out.now))) (sym e)
-    c.step-2.ensures
+    subst (λ (b : Bool). StepMeets c.step-else-is_write.result a.out.now c.step-else-is_write.new.out (usb_step a.operation (length (pick b a.source.now a.room.now)) (length a.out.now))) (sym e)
+    c.step-else-is_write.ensures

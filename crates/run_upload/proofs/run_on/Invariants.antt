@@ -1,6 +1,4 @@
--- The loop keeps that the run from here is the rest of the run from the start (`On`), and the store's length; the measure is what is left of the
--- budget.
-use Prim.Native.Nat.{◌-◌}
+-- The loop keeps that the run from here is the rest of the run from the start (`On`), and the store's length.
 use mathlib.Core.Path.{◌≡◌}
 use lib.ListN.{length}
 use Rattle.promise.specs.Run.{runs}
@@ -10,8 +8,5 @@ use Rattle.run_upload.proofs.run_on.Given as goal
 
 abbrev pub invariant-loop-used : goal.invariant-loop-used
 invariant-loop-used l =
-    On (load_turn l.image) l.budget l.used (runs (load_turn l.image) l.budget (load_state l.initial.now_upload l.initial.now_device l.initial.store)) (load_state l.now_upload l.now_device l.store)
+    On (load_turn l.image) l.budget l.used (runs (load_turn l.image) l.budget (load_state l.initial.upload l.initial.device l.initial.store)) (load_state l.upload l.device l.store)
     × (length l.store ≡ length l.initial.store)
-
-abbrev pub decreases-loop-used : goal.decreases-loop-used
-decreases-loop-used l = l.budget - l.used

@@ -1,67 +1,34 @@
--- The tests are the run's rules in their order, and past them stand its turns.
-use mathlib.Core.Path.{refl}
-use mathlib.Core.List.{[]}
-use lib.ListN.{length}
-use Rattle.protocol_bytes.specs.Signature.{no_signature}
-use Rattle.mock_base.specs.Told.{error_number, error_values}
-use Rattle.mock_base.specs.declared.error.MockTransportError.TheVariants as error
+-- What the checks tell decides the run, and past them stand its turns.
+use Rattle.std.proofs.Common.{◌≡◌, length, refl, ap, sym, ◌∙◌, Err}
+use Rattle.promise.specs.Told.{given, refused}
+use Rattle.promise.specs.Rules.{unless}
 use Rattle.promise.specs.Run.{runs}
-use Rattle.run_upload.specs.declared.LoadStop.TheVariants as stop
-use Rattle.run_upload.specs.declared.LoadAnswer.TheVariants as answer
-use Rattle.run_upload.specs.Load.{load_state, load_turn, unstarted, load_run}
-use Rattle.run_upload.specs.Answers.{load_stop_told}
+use Rattle.run_upload.specs.declared.LoadError.{LoadError}
+use Rattle.run_upload.specs.declared.LoadError.TheVariants.{Stopped}
+use Rattle.run_upload.specs.Load.{load_state, load_turn, load_rules, unstarted, load_run}
+use Rattle.run_upload.specs.Answers.{stop_error_number, load_stop_told}
 use Rattle.run_upload.specs.Code.{run_by}
-use Rattle.run_upload.proofs.Checks.{stopped, as_run, flash_refused, store_refused, image_refused, unrefused}
-use Rattle.promise.specs.Rules.{differs}
+use Rattle.run_upload.proofs.Checks.{stop_values, told_by, stopped, as_run, run_refused, run_begins}
 use Rattle.run_upload.proofs.run_upload.Goals as goal
 
-pub returns-in-Refused : goal.returns-in-Refused
-unfolding load_stop_told
-returns-in-Refused c =
+pub returns-in-Err : goal.returns-in-Err
+returns-in-Err c =
     let a = c.args in
     let s = load_state a.upload a.device a.store.now in
-    let e = c.in-Refused.error in
-    let n = length a.flash.now in
-    let z = c.flash_sectors-size in
-    as_run c.ran.result (run_by (answer.Ended (stop.Device e)) 0 a.upload a.device) a.store.now (load_run a.image.now n a.budget s)
-    (unstarted s (error_number e) (error_values e no_signature)) c.ran.ensures
-    (flash_refused a.image.now n a.budget s z.result e z.ensures c.in-Refused.is)
-    (stopped (stop.Device e) s (error_number e) (error_values e no_signature) refl)
-
-pub returns-then-store-device : goal.returns-then-store-device
-unfolding load_stop_told error_values
-returns-then-store-device c =
-    let a = c.args in
-    let s = load_state a.upload a.device a.store.now in
-    let n = length a.flash.now in
-    let z = c.flash_sectors-size in
-    let w = c.in_default in
-    as_run c.ran-then-store-device.result (run_by (answer.Ended (stop.Device error.StoreLength)) 0 a.upload a.device) a.store.now
-    (load_run a.image.now n a.budget s) (unstarted s 65 []) c.ran-then-store-device.ensures
-    (store_refused a.image.now n a.budget s z.result _ z.ensures w.is c.if-store-device.true)
-    (stopped (stop.Device error.StoreLength) s 65 [] refl)
-
-pub returns-then-image-upload : goal.returns-then-image-upload
-unfolding load_stop_told
-returns-then-image-upload c =
-    let a = c.args in
-    let s = load_state a.upload a.device a.store.now in
-    let n = length a.flash.now in
-    let z = c.flash_sectors-size in
-    let w = c.in_default in
-    as_run c.ran-then-image-upload.result (run_by (answer.Ended stop.ImageDiffers) 0 a.upload a.device) a.store.now
-    (load_run a.image.now n a.budget s) (unstarted s differs []) c.ran-then-image-upload.ensures
-    (image_refused a.image.now n a.budget s z.result _ z.ensures w.is c.if-store-device.false c.if-image-upload.true)
-    (stopped stop.ImageDiffers s differs [] refl)
+    let e = c.in-Err.error in
+    let n = stop_error_number e in
+    let values = stop_values e in
+    let told : unless {A = Unit} (load_rules s (length a.flash.now) (length a.image.now)) (given tt) ≡ refused n values =
+    sym c.checked.ensures ∙ ap load_stop_told c.in-Err.is ∙ told_by e in
+    as_run c.ran.result (run_by (Err (Stopped e)) 0 a.upload a.device) a.store.now (load_run a.image.now (length a.flash.now) a.budget s) (unstarted s n values)
+    (c.ran.ensures ∙ ap (λ (x : LoadError). run_by (Err x) 0 a.upload a.device) c.into.ensures)
+    (run_refused a.image.now (length a.flash.now) a.budget s n values told) (stopped e s n values (told_by e))
 
 pub returns : goal.returns
+unfolding load_stop_told
 returns c =
     let a = c.args in
     let s = load_state a.upload a.device a.store.now in
-    let n = length a.flash.now in
-    let z = c.flash_sectors-size in
-    let w = c.in_default in
     let r = c.run_on in
-    as_run r.result r.result r.new.store (load_run a.image.now n a.budget s) (runs (load_turn a.image.now) a.budget s) refl
-    (unrefused a.image.now n a.budget s z.result _ z.ensures w.is c.if-store-device.false c.if-image-upload.false)
-    r.ensures
+    as_run r.result r.result r.new.store (load_run a.image.now (length a.flash.now) a.budget s) (runs (load_turn a.image.now) a.budget s) refl
+    (run_begins a.image.now (length a.flash.now) a.budget s (sym c.checked.ensures ∙ ap load_stop_told c.in_default.is)) r.ensures

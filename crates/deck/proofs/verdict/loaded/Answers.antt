@@ -4,5 +4,5 @@ use Rattle.deck.proofs.verdict.loaded.Goals as goal
 
 pub returns : goal.returns
 returns c =
-    let blank = c.blank-beside in
-    record { tells = c.of_load-verdict.ensures blank.result; beside = blank.ensures; device = refl }
+    let blank = c.blank in
+    record { tells = c.of_load.ensures blank.result; beside = blank.ensures; device = refl }

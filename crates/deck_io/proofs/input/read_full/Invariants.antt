@@ -1,6 +1,9 @@
--- What is filled stands within the buffer.
-use Rattle.std.proofs.Common.{◌≤◌, length}
+-- What is filled stands within the buffer, and each turn brings a byte at least or is the last.
+use Rattle.std.proofs.Common.{◌≤◌, ◌-◌, length}
 use Rattle.deck_io.proofs.input.read_full.Given as goal
 
-abbrev pub invariant-loop : goal.invariant-loop
-invariant-loop g l = l.done ≤ length l.buffer
+abbrev pub invariant-loop-count : goal.invariant-loop-count
+invariant-loop-count g l = l.count ≤ length l.buffer
+
+abbrev pub decreases-loop-count : goal.decreases-loop-count
+decreases-loop-count g l = length l.buffer - l.count

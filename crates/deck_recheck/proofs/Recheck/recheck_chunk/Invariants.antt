@@ -1,11 +1,7 @@
--- What is rechecked and what is left make the whole; the measure is how many bytes are left.
-use Rattle.std.proofs.Common.{◌-◌, length}
+-- What is rechecked and what is left make the whole.
 use Rattle.deck_recheck.specs.Recheck.{standing}
 use Rattle.deck_recheck.proofs.Laws.{OnTheWay}
 use Rattle.deck_recheck.proofs.Recheck.recheck_chunk.Given as goal
 
-abbrev pub invariant-loop-step : goal.invariant-loop-step
-invariant-loop-step l = OnTheWay l.initial.chunk (standing l.initial.step.recheck) l.step l.chunk
-
-abbrev pub decreases-loop-step : goal.decreases-loop-step
-decreases-loop-step l = length l.chunk - l.step.bytes
+abbrev pub invariant-loop-from : goal.invariant-loop-from
+invariant-loop-from l = OnTheWay l.initial.chunk (standing l.initial.self) (record { bytes = l.from; recheck = l.self }) l.chunk

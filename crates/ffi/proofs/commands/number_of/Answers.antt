@@ -6,4 +6,4 @@ use Rattle.ffi.proofs.commands.number_of.Goals as goal
 
 pub returns : goal.returns
 unfolding command_number
-returns c = let a = c.args.block in ap (λ (n : ℕ). n + a.cd_address * 256 + a.cd_length * 1099511627776) c.number.ensures
+returns c = let a = c.args.block in ap (λ (n : ℕ). n + a.cd_address * 256 + a.cd_length * 1099511627776) c.from.ensures

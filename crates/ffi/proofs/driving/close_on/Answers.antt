@@ -8,32 +8,32 @@ use Rattle.ffi.specs.Drive.{stepping, step_turn, most_closing}
 use Rattle.ffi.proofs.Stepping.{drive_on, drive_ends, drive_spent}
 use Rattle.ffi.proofs.driving.close_on.Goals as goal
 
-pub loop-used-init : goal.loop-used-init
-loop-used-init c = let a = c.args in (begins (step_turn close_step) most_closing (stepping a.operation a.out.now), refl)
+pub loop-init : goal.loop-init
+loop-init c = let a = c.args in (begins (step_turn close_step) most_closing (stepping a.operation a.out.now), refl)
 
-pub returns-in-Ends : goal.returns-in-Ends
-returns-in-Ends c =
+pub returns-in-Break : goal.returns-in-Break
+returns-in-Break c =
     let t = c.close-stepped in
-    let l = c.loop-used in
+    let l = c.loop in
     let a = c.args in
-    let pace = sym c.pace_of-pace.ensures ∙ c.in-Ends.is in
-    drive_ends close_step most_closing a.operation a.out.now l.used l.now_operation l.out l.invariant.0 c.loop-used-test.true
-    (step_told t.result.step) t.result.next t.new.out t.ensures c.in-Ends.number pace
+    let pace = sym c.pace_of.ensures ∙ c.in-Break.is in
+    drive_ends close_step most_closing a.operation a.out.now l.counter l.operation l.out l.invariant.0 c.loop-test.true
+    (step_told t.result.step) t.result.next t.new.out t.ensures c.in-Break.number pace
 
-pub loop-used-preserved : goal.loop-used-preserved
-loop-used-preserved c =
+pub loop-preserved : goal.loop-preserved
+loop-preserved c =
     let t = c.close-stepped in
-    let l = c.loop-used in
+    let l = c.loop in
     let a = c.args in
-    let pace = sym c.pace_of-pace.ensures ∙ c.in_default.is in (
-      drive_on close_step most_closing a.operation a.out.now l.used l.now_operation l.out l.invariant.0 c.loop-used-test.true
+    let pace = sym c.pace_of.ensures ∙ c.in_default.is in (
+      drive_on close_step most_closing a.operation a.out.now l.counter l.operation l.out l.invariant.0 c.loop-test.true
           (step_told t.result.step) t.result.next t.new.out t.ensures pace,
       t.auto.out ∙ l.invariant.1,
     )
 
 pub returns : goal.returns
 returns c =
-    let l = c.loop-used in
+    let l = c.loop in
     let a = c.args in
-    let all : l.used ≡ most_closing = omega (arith, l.invariant.0.within) in
-    drive_spent close_step most_closing a.operation a.out.now l.used l.now_operation l.out l.invariant.0 all
+    let all : l.counter ≡ most_closing = omega (arith, l.invariant.0.within) in
+    drive_spent close_step most_closing a.operation a.out.now l.counter l.operation l.out l.invariant.0 all

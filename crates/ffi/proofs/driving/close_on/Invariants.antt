@@ -1,5 +1,4 @@
 -- As `whole_on`, with the closing steps.
-use Prim.Native.Nat.{◌-◌}
 use mathlib.Core.Path.{◌≡◌}
 use lib.ListN.{length}
 use Rattle.maskrom.specs.PartWise.{close_step}
@@ -7,8 +6,5 @@ use Rattle.ffi.specs.Drive.{most_closing}
 use Rattle.ffi.proofs.Stepping.{Driving}
 use Rattle.ffi.proofs.driving.close_on.Given as goal
 
-abbrev pub invariant-loop-used : goal.invariant-loop-used
-invariant-loop-used l = Driving close_step most_closing l.initial.now_operation l.initial.out l.used l.now_operation l.out × (length l.out ≡ length l.initial.out)
-
-abbrev pub decreases-loop-used : goal.decreases-loop-used
-decreases-loop-used l = most_closing - l.used
+abbrev pub invariant-loop : goal.invariant-loop
+invariant-loop l = Driving close_step most_closing l.initial.operation l.initial.out l.counter l.operation l.out × (length l.out ≡ length l.initial.out)

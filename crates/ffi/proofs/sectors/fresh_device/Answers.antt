@@ -7,4 +7,4 @@ use Rattle.ffi.proofs.sectors.fresh_device.Goals as goal
 
 pub returns : goal.returns
 unfolding created
-returns c = c.new-made.ensures.fresh ∙ ap (λ (d : MockDeviceConfig). fresh_state First d 0) c.default.ensures
+returns c = c.new.ensures.fresh ∙ ap (λ (d : MockDeviceConfig). fresh_state First d 0) c.default.ensures

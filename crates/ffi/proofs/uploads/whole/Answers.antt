@@ -2,21 +2,20 @@
 use mathlib.Core.Path.{ap, sym, subst, ◌∙◌}
 use mathlib.Core.List.{[]}
 use Rattle.promise.specs.Told.{number}
-use Rattle.maskrom.specs.declared.UploadStart.{UploadStart}
 use Rattle.maskrom.specs.Answers.{start_told, too_long}
 use Rattle.maskrom.specs.Whole.{fresh_whole, start_step}
 use Rattle.ffi.specs.Drive.{Drove, DriveMeets}
 use Rattle.ffi.proofs.UploadsTold.{start_refused, start_given}
 use Rattle.ffi.proofs.uploads.whole.Goals as goal
 
-pub returns-in_default : goal.returns-in_default
+pub returns-in-Err : goal.returns-in-Err
 unfolding start_told number
-returns-in_default c =
+returns-in-Err c =
     let a = c.args in
     let s = c.write_area-started.ensures in
     let none = start_refused a.image.now a.out.now a.budget (start_step a.area a.image.now) too_long []
-    (sym (ap start_told c.in_default.is) ∙ s.tells) in
-    let told = c.number.ensures ∙ ap (λ (x : UploadStart). number (start_told x)) c.in_default.is in
+    (sym (ap start_told c.in-Err.is) ∙ s.tells) in
+    let told = c.number.ensures in
     record { tells = told ∙ sym (ap (λ (d : Drove). d.number) none); leaves = sym (ap (λ (d : Drove). d.out) none) }
 
 pub returns : goal.returns
@@ -27,5 +26,5 @@ returns c =
     let run = c.whole_on in
     subst (λ (d : Drove). DriveMeets run.result run.new.out d)
     (start_given a.image.now a.out.now a.budget (start_step a.area a.image.now) (fresh_whole a.area 0) s.result.upload
-    (sym (ap start_told c.in-Started.is) ∙ s.ensures.tells) s.ensures.next)
+    (sym (ap start_told c.in_default.is) ∙ s.ensures.tells) s.ensures.next)
     run.ensures

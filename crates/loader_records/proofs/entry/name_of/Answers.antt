@@ -14,55 +14,21 @@ use Rattle.loader_records.proofs.entry.name_of.Goals as goal
 
 pub loop-i-init : goal.loop-i-init
 unfolding units_from
-loop-i-init c = (omega arith, refl, refl)
-
-pub overflow_mul-i : goal.overflow_mul-i
-overflow_mul-i c = search rules
-
-pub overflow_add-i : goal.overflow_add-i
-overflow_add-i c = search rules
-
-pub bounds-b-i : goal.bounds-b-i
-bounds-b-i c = search rules
-
-pub overflow_mul-i-in-loop-i : goal.overflow_mul-i-in-loop-i
-overflow_mul-i-in-loop-i c = search rules
-
-pub overflow_add-i-in-loop-i : goal.overflow_add-i-in-loop-i
-overflow_add-i-in-loop-i c = search rules
-
-pub bounds-b-i-in-loop-i : goal.bounds-b-i-in-loop-i
-bounds-b-i-in-loop-i c = search rules
-
-pub u16_from_le_bytes-requires : goal.u16_from_le_bytes-requires
-u16_from_le_bytes-requires c = search rules
-
-pub offset_bounds-name-i : goal.offset_bounds-name-i
-offset_bounds-name-i c = search rules
-
-pub bounds-name-i : goal.bounds-name-i
-bounds-name-i c = search rules
-
-pub overflow_add-i-in-loop-i-2 : goal.overflow_add-i-in-loop-i-2
-overflow_add-i-in-loop-i-2 c = search rules
-
-pub loop-i-smaller : goal.loop-i-smaller
-loop-i-smaller c = omega arith
+loop-i-init c = (refl, refl)
 
 pub loop-i-preserved : goal.loop-i-preserved
 loop-i-preserved c =
     let turn = c.loop-i in
-    let b = c.args.b in
+    let b = c.args.b.now in
     let long : length b ≡ 57 = search rules in
-    let name : length turn.name ≡ 20 = turn.invariant.1 in
+    let name : length turn.name ≡ 20 = turn.invariant.0 in
     let kept : length (set turn.name turn.i c.u16_from_le_bytes.result) ≡ 20 = length-set turn.name turn.i c.u16_from_le_bytes.result ∙ name in
     let inside : 5 + 2 * turn.i + 2 ≤ length b = omega arith in
     let one : turn.i + 1 ≡ suc turn.i = omega arith in
     let second : 6 + 2 * turn.i ≡ suc (5 + 2 * turn.i) = omega arith in (
-      omega arith,
       kept,
       rw one
-          (units_next turn.i 5 c.u16_from_le_bytes.result b turn.name (omega arith) turn.invariant.2
+          (units_next turn.i 5 c.u16_from_le_bytes.result b turn.name (omega arith) turn.invariant.1
           (c.u16_from_le_bytes.ensures
           ∙ ap (λ (k : ℕ). from_low (get_or b (5 + 2 * turn.i) 0 ∷ get_or b k 0 ∷ [])) second
           ∙ sym (ap from_low (field_elements 2 (5 + 2 * turn.i) b inside)))),
@@ -71,7 +37,7 @@ loop-i-preserved c =
 pub returns : goal.returns
 returns c =
     let end = c.loop-i in
-    let name : length end.name ≡ 20 = end.invariant.1 in
+    let name : length end.name ≡ 20 = end.invariant.0 in
     let all : end.i ≡ 20 = omega arith in
     let short : length end.name ≤ end.i = omega arith in
-    sym (take_all end.i end.name short) ∙ end.invariant.2 ∙ ap (λ (n : ℕ). units_from n 5 c.args.b) all
+    sym (take_all end.i end.name short) ∙ end.invariant.1 ∙ ap (λ (n : ℕ). units_from n 5 c.args.b.now) all

@@ -11,7 +11,7 @@ use Rattle.loader_records.proofs.list.list_of.Goals as goal
 pub returns : goal.returns
 unfolding list_of
 returns c =
-    let b = c.args.b in
+    let b = c.args.b.now in
     let long : length b ≡ 6 = search rules in
     let offset : 1 + 4 ≤ length b = omega arith in
     rw (c.u32_from_le_bytes.ensures, field_elements 4 1 b offset) refl

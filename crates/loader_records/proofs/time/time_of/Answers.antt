@@ -11,7 +11,7 @@ use Rattle.loader_records.proofs.time.time_of.Goals as goal
 pub returns : goal.returns
 unfolding time_of
 returns c =
-    let b = c.args.b in
+    let b = c.args.b.now in
     let long : length b ≡ 7 = search rules in
     let year : 0 + 2 ≤ length b = omega arith in
     rw (c.u16_from_le_bytes.ensures, field_elements 2 0 b year) refl

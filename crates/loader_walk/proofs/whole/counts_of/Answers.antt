@@ -4,4 +4,4 @@ use Rattle.loader_walk.specs.Code.{header_counts}
 use Rattle.loader_walk.proofs.whole.counts_of.Goals as goal
 
 pub returns : goal.returns
-returns c = ap header_counts c.from_bytes-read.ensures.value
+returns c = ap header_counts c.from_bytes.ensures.value

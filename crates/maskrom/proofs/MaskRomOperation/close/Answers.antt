@@ -36,8 +36,8 @@ returns c =
     let out = c.args.out.now in
     let step = send_step m.steps m.crc (held m) (length out) in
     let new = c.send-sent.new.out in
-    let to = c.in-Moved.to in
+    let to = c.in-Ok.to in
     handed c.after_close-2.result (given (asks m.steps m.area to.size)) (with_moved m to.crc to.steps) m out new
     (ap (λ (r : CloseStepped). step_told r.step) c.after_close-2.ensures ∙ c.asked-step.ensures)
     (ap (λ (r : CloseStepped). r.next) c.after_close-2.ensures ∙ c.moved_to.ensures)
-    (goes_on m out new to (λ (x : Moved). asks m.steps m.area x.size) (λ (x : Moved). with_moved m x.crc x.steps) step c.in-Moved.ensures)
+    (goes_on m out new to (λ (x : Moved). asks m.steps m.area x.size) (λ (x : Moved). with_moved m x.crc x.steps) step c.in-Ok.ensures)

@@ -51,9 +51,9 @@ returns c =
     let out = c.args.out.now in
     let step = send_step u.steps (crc_over u.crc w) w (length out) in
     let new = c.send_lent-sent.new.out in
-    let to = c.in-Moved.to in
+    let to = c.in-Ok.to in
     handed c.after_step-2.result (given (asks u.steps u.area to.size)) (sent_on u (length w) to.crc to.steps) u w out new
     (ap (λ (r : WholeStepped). step_told r.step) c.after_step-2.ensures ∙ c.asked-step.ensures)
     (ap (λ (r : WholeStepped). r.next) c.after_step-2.ensures ∙ c.moved_on.ensures)
     (goes_on u out new to (λ (x : Moved). asks u.steps u.area x.size) (λ (x : Moved). sent_on u (length w) x.crc x.steps) step
-    (sent_chunk (given to) u c.crc_over-crc.result w out new c.crc_over-crc.ensures c.requires.0 c.in-Moved.ensures))
+    (sent_chunk (given to) u c.crc_over-crc.result w out new c.crc_over-crc.ensures c.requires.0 c.in-Ok.ensures))

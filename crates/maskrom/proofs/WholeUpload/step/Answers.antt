@@ -5,7 +5,7 @@ use Rattle.maskrom.proofs.WholeUpload.step.Goals as goal
 
 pub send_on-requires : goal.send_on-requires
 send_on-requires c =
-    let from = c.least-from.result in
+    let from = c.min-from.result in
     let size = c.chunk_size.result in
     let n : length (take (from + size - from) (drop from c.args.image.now)) ≤ size = simp length-take (omega arith) in
     (omega (arith, most_block c.args.self.steps), omega arith)

@@ -23,7 +23,7 @@ unfolding block_rules or_refuse error_values
 returns-then-block_size-eq0 c =
     let f = c.flash_sectors-size in
     let a = c.args in
-    rw (told_whole Nor a.block_size a.length f.result f.ensures c.in-Whole.field-0 c.in-Whole.is, eq-eqb a.block_size 0 c.if-block_size-eq0.true)
+    rw (told_whole Nor a.block_size a.length f.result f.ensures c.in-Ok.field-0 c.in-Ok.is, eq-eqb a.block_size 0 c.if-block_size-eq0.true)
     (answers_error ZeroBlockSize (refused 62 []) refl)
 
 pub returns : goal.returns
@@ -31,4 +31,4 @@ unfolding block_rules or_refuse
 returns c =
     let f = c.flash_sectors-size in
     let a = c.args in
-    rw (told_whole Nor a.block_size a.length f.result f.ensures c.in-Whole.field-0 c.in-Whole.is, ne_eqb a.block_size 0 c.if-block_size-eq0.false) answers_done
+    rw (told_whole Nor a.block_size a.length f.result f.ensures c.in-Ok.field-0 c.in-Ok.is, ne_eqb a.block_size 0 c.if-block_size-eq0.false) answers_done

@@ -1,21 +1,30 @@
 -- The slot that holds the number, and where it starts.
-use Rattle.mock_areas.proofs.Room.{slot_inside}
+use Prim.Native.Nat.{ℕ, ◌*◌, ◌<◌}
+use mathlib.Core.Path.{ap, sym, ◌∙◌}
+use Rattle.std.specs.declared.option.Option.TheVariants.{Some}
+use Rattle.mock_areas.specs.Slots.{slot_size}
 use native.Mathlib.Omega.{arith}
-use borrow.Author.Tests.{lt-ltb, le-ltb}
-use Rattle.mock_areas.specs.Slots.{area_found, held_at, slot_count}
+use Rattle.mock_areas.proofs.Room.{slot_inside}
+use Rattle.mock_areas.proofs.Finding.{among_below, not_found, found}
 use Rattle.mock_areas.proofs.Areas.find.Goals as goal
+use Rattle.mock_areas.proofs.Areas.find.Goals.{In_ok-at}
+
+below : (c : In_ok-at) → c.in_ok-at.at < 8
+below c = among_below _ c.in_ok-at.at (sym c.first.ensures ∙ c.in_ok-at.was)
+
+pub returns-in_err-at : goal.returns-in_err-at
+returns-in_err-at c = c.from_residual.ensures ∙ sym (not_found c.args.self c.args.number c.args.store_length (sym c.first.ensures ∙ c.in_err-at.was))
 
 pub overflow_mul-result : goal.overflow_mul-result
-overflow_mul-result c = omega (arith, slot_inside c.first-at.result c.args.store_length c.if-at-lt-SLOTS.true)
+overflow_mul-result c = omega (arith, below (goal.at.overflow_mul-result c).In_ok-at, slot_inside c.in_ok-at.at c.args.store_length (below (goal.at.overflow_mul-result c).In_ok-at))
 
-pub returns-then-at-lt-SLOTS : goal.returns-then-at-lt-SLOTS
-unfolding area_found held_at
-returns-then-at-lt-SLOTS c =
-    let f = c.first-at in
-    rw (← f.ensures.value, lt-ltb f.result slot_count c.if-at-lt-SLOTS.true)
+pub offset_bounds-slots-at : goal.offset_bounds-slots-at
+offset_bounds-slots-at c = omega (arith, below (goal.at.offset_bounds-slots-at c).In_ok-at)
+
+pub bounds-slots-at : goal.bounds-slots-at
+bounds-slots-at c = below (goal.at.bounds-slots-at c).In_ok-at
 
 pub returns : goal.returns
-unfolding area_found held_at
 returns c =
-    let f = c.first-at in
-    rw (← f.ensures.value, le-ltb f.result slot_count c.if-at-lt-SLOTS.false)
+    ap (λ (n : ℕ). Some (record { start = c.in_ok-at.at * slot_size c.args.store_length; length = n })) c.used.ensures
+    ∙ sym (found c.args.self c.args.number c.args.store_length c.in_ok-at.at (sym c.first.ensures ∙ c.in_ok-at.was))

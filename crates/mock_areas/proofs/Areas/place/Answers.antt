@@ -1,16 +1,27 @@
 -- The slot that holds the number where there is one, else the first that is free.
-use borrow.Author.Tests.{lt-ltb, le-ltb}
-use Rattle.mock_areas.specs.Slots.{place, held_at, slot_count}
+use Prim.Native.Nat.{ℕ}
+use mathlib.Core.Path.{ap, sym, ◌∙◌}
+use Rattle.std.specs.declared.option.Option.TheVariants.{Some}
+use native.Mathlib.Omega.{arith}
+use Rattle.mock_areas.proofs.Finding.{among_below, placed_held, placed_free, placed_nowhere}
 use Rattle.mock_areas.proofs.Areas.place.Goals as goal
 
-pub returns-then-at-lt-SLOTS : goal.returns-then-at-lt-SLOTS
-unfolding place held_at
-returns-then-at-lt-SLOTS c =
-    let f = c.first-at in
-    rw (← f.ensures.value, lt-ltb f.result slot_count c.if-at-lt-SLOTS.true)
+pub offset_bounds-slots-slot : goal.offset_bounds-slots-slot
+offset_bounds-slots-slot c = omega (arith, among_below _ c.in-Some.slot (sym c.first.ensures ∙ c.in-Some.is))
+
+pub bounds-slots-slot : goal.bounds-slots-slot
+bounds-slots-slot c = among_below _ c.in-Some.slot (sym c.first.ensures ∙ c.in-Some.is)
+
+pub returns-in-Some : goal.returns-in-Some
+returns-in-Some c =
+    ap (λ (n : ℕ). Some (record { slot = c.in-Some.slot; used = n })) c.used.ensures
+    ∙ sym (placed_held c.args.number c.args.self.slots c.in-Some.slot (sym c.first.ensures ∙ c.in-Some.is))
+
+pub returns-in_err-slot : goal.returns-in_err-slot
+returns-in_err-slot c =
+    c.from_residual.ensures ∙ sym (placed_nowhere c.args.number c.args.self.slots (sym c.first.ensures ∙ c.in_default.is) (sym c.first-2.ensures ∙ c.in_err-slot.was))
 
 pub returns : goal.returns
-unfolding place held_at
 returns c =
-    let f = c.first-at in
-    rw (← f.ensures.value, le-ltb f.result slot_count c.if-at-lt-SLOTS.false, ← c.first.ensures.value)
+    sym (placed_free c.args.number c.args.self.slots c.in_ok-slot.slot (sym c.first.ensures ∙ c.in_default.is)
+    (sym c.first-2.ensures ∙ c.in_ok-slot.was))

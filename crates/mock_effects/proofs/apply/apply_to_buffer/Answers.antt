@@ -1,6 +1,7 @@
 -- Each arm is the case of the definition; an effect that fits lies in the flash and has the size of the buffer.
 use Prim.Native.Nat.{◌/◌}
-use mathlib.Core.Path.{ap, sym, ◌∙◌, subst}
+use mathlib.Core.Path.{◌≡◌, refl, ap, sym, ◌∙◌, subst}
+use mathlib.Core.Logic.{⊎_elim}
 use native.Mathlib.Omega.{arith}
 use lib.ListN.{length}
 use Rattle.protocol_bytes.specs.Sector.{sector_size}
@@ -38,22 +39,7 @@ pub returns-in-Nothing : goal.returns-in-Nothing
 unfolding buffer_after
 returns-in-Nothing c =
     let a = c.args in
-    ap (λ (x : Effect). buffer_after a.config x a.flash.now a.«data».now) (sym c.in-Nothing.is)
-
-pub returns-in-Fill : goal.returns-in-Fill
-unfolding buffer_after
-returns-in-Fill c =
-    let a = c.args in
-    ap (λ (x : Effect). buffer_after a.config x a.flash.now a.«data».now) (sym c.in-Fill.is)
-
-pub returns-in-Store : goal.returns-in-Store
-unfolding buffer_after
-returns-in-Store c =
-    let a = c.args in
-    ap (λ (x : Effect). buffer_after a.config x a.flash.now a.«data».now) (sym c.in-Store.is)
-
-pub returns-in-Program : goal.returns-in-Program
-unfolding buffer_after
-returns-in-Program c =
-    let a = c.args in
-    ap (λ (x : Effect). buffer_after a.config x a.flash.now a.«data».now) (sym c.in-Program.is)
+    let stays : (e : Effect) → a.effect ≡ e → buffer_after a.config e a.flash.now a.«data».now ≡ a.«data».now
+    → a.«data».now ≡ buffer_after a.config a.effect a.flash.now a.«data».now =
+    λ x e s. sym s ∙ ap (λ (x : Effect). buffer_after a.config x a.flash.now a.«data».now) (sym e) in
+    ⊎_elim (λ e. stays _ e refl) (⊎_elim (λ e. stays _ e.1 refl) (⊎_elim (λ e. stays _ e.1 refl) (λ e. stays _ e.1 refl))) c.in-Nothing.is

@@ -1,6 +1,8 @@
 -- Each arm is the case of the definition; an effect that fits lies in the flash.
 use Prim.Native.Nat.{◌/◌}
-use mathlib.Core.Path.{ap, sym, ◌∙◌, subst}
+use mathlib.Core.Path.{◌≡◌, refl, ap, sym, ◌∙◌, subst}
+use mathlib.Core.Logic.{⊎_elim}
+use Rattle.protocol_codes.specs.declared.Status.TheVariants.{SUCCESS}
 use native.Mathlib.Omega.{arith}
 use lib.ListN.{length}
 use Rattle.protocol_bytes.specs.Sector.{sector_size}
@@ -57,19 +59,10 @@ pub returns-in-Nothing : goal.returns-in-Nothing
 unfolding flash_after pending_after
 returns-in-Nothing c =
     let a = c.args in
-    let e = sym c.in-Nothing.is in
-    (ap (λ (x : Effect). pending_after x a.«data».now a.flash.now) e, ap (λ (x : Effect). flash_after x a.«data».now a.flash.now) e)
-
-pub returns-in-Supply : goal.returns-in-Supply
-unfolding flash_after pending_after
-returns-in-Supply c =
-    let a = c.args in
-    let e = sym c.in-Supply.is in
-    (ap (λ (x : Effect). pending_after x a.«data».now a.flash.now) e, ap (λ (x : Effect). flash_after x a.«data».now a.flash.now) e)
-
-pub returns-in-Reply : goal.returns-in-Reply
-unfolding flash_after pending_after
-returns-in-Reply c =
-    let a = c.args in
-    let e = sym c.in-Reply.is in
-    (ap (λ (x : Effect). pending_after x a.«data».now a.flash.now) e, ap (λ (x : Effect). flash_after x a.«data».now a.flash.now) e)
+    let stays : (e : Effect) → a.effect ≡ e → (pending_after e a.«data».now a.flash.now ≡ SUCCESS) × (flash_after e a.«data».now a.flash.now ≡ a.flash.now)
+    → (SUCCESS ≡ pending_after a.effect a.«data».now a.flash.now) × (a.flash.now ≡ flash_after a.effect a.«data».now a.flash.now) =
+    λ x e s. (
+      sym s.0 ∙ ap (λ (x : Effect). pending_after x a.«data».now a.flash.now) (sym e),
+      sym s.1 ∙ ap (λ (x : Effect). flash_after x a.«data».now a.flash.now) (sym e),
+    ) in
+    ⊎_elim (λ e. stays _ e (refl, refl)) (⊎_elim (λ e. stays _ e.1 (refl, refl)) (λ e. stays _ e.1 (refl, refl))) c.in-Nothing.is

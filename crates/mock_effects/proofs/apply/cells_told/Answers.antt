@@ -1,33 +1,30 @@
--- The cells take all that is left exactly if they take all of it, since what was passed was the byte asked.
-use mathlib.Core.Path.{refl, ap, sym, ◌∙◌}
+-- Each cell beside its byte is looked at, and the cells took all exactly if each kept its byte.
+use mathlib.Core.Path.{◌≡◌, ap, sym, ◌∙◌}
 use mathlib.Core.Bool.{Bool}
-use native.Mathlib.Omega.{arith}
+use Rattle.std.proofs.Common.{rules, tests}
+use Rattle.std.proofs.lemmas.Iterator.{YieldsList-from_slice, YieldsList-from_zip}
+use Rattle.std.proofs.lemmas.Iterator.Search.{all_from_yields_List}
 use Rattle.promise.specs.Rules.{pick}
 use Rattle.protocol_codes.specs.declared.Status.{Status}
 use Rattle.protocol_codes.specs.declared.Status.TheVariants.{SUCCESS, FAILED}
 use Rattle.mock_effects.specs.Effects.{cells_told}
-use Rattle.mock_effects.proofs.Programming.{took_next, took_not, took_all}
+use Rattle.mock_effects.proofs.Programming.{keeps_byte, took, all_took}
 use Rattle.mock_effects.proofs.apply.cells_told.Goals as goal
+use Rattle.mock_effects.proofs.apply.cells_told.Goals.{After-all}
 
 abbrev tells : Bool → Status
 tells all = pick all SUCCESS FAILED
 
-pub loop-i-init : goal.loop-i-init
-loop-i-init c = (omega arith, refl)
+all_kept : (c : After-all) → c.all.result ≡ took c.args.asked.now c.args.old.now
+all_kept c =
+    all_from_yields_List keeps_byte c.all.new.self _ c.all.result c.all.ensures.ran
+    (YieldsList-from_zip (YieldsList-from_slice c.args.old.now cc) (YieldsList-from_slice c.args.asked.now cc)) (λ x b q k. search (rules, tests))
+    ∙ all_took c.args.old.now c.args.asked.now c.requires
 
-pub bounds-old-i : goal.bounds-old-i
-bounds-old-i c = let p = c.requires in omega arith
-
-pub returns-then-old-i : goal.returns-then-old-i
+pub returns-then-all : goal.returns-then-all
 unfolding cells_told
-returns-then-old-i c =
-    ap tells (sym (took_not c.loop-i.i c.args.asked.now c.args.old.now (omega arith) c.requires c.if-old-i.true) ∙ c.loop-i.invariant.1)
+returns-then-all c = ap tells (sym c.if-all.true ∙ all_kept (goal.at.returns-then-all c).After-all)
 
-pub loop-i-preserved : goal.loop-i-preserved
-loop-i-preserved c =
-    (omega arith, sym (took_next c.loop-i.i c.args.asked.now c.args.old.now (omega arith) c.requires c.if-old-i.false) ∙ c.loop-i.invariant.1)
-
-pub returns : goal.returns
+pub returns-else-all : goal.returns-else-all
 unfolding cells_told
-returns c =
-    ap tells (sym (took_all c.loop-i.i c.args.asked.now c.args.old.now (omega arith)) ∙ c.loop-i.invariant.1)
+returns-else-all c = ap tells (sym c.if-all.false ∙ all_kept (goal.at.returns-else-all c).After-all)

@@ -17,6 +17,6 @@ returns c =
     let size = c.args.range.count * sector_size in
     let k : start + size - start ≡ size = omega arith in
     let n : length (take (start + size - start) (drop start flash)) ≡ size = simp (length-take, length-drop) (omega (arith, c.requires)) in
-    let last : c.fill.new.part ≡ replicate size erased = c.fill.ensures ∙ ap (λ (m : ℕ). replicate m erased) n in
-    put_over start (start + size - start) flash c.fill.new.part (ap length last ∙ length-replicate size erased ∙ sym k)
+    let last : c.fill.new.self ≡ replicate size erased = c.fill.ensures.after (λ y e. e) ∙ ap (λ (m : ℕ). replicate m erased) n in
+    put_over start (start + size - start) flash c.fill.new.self (ap length last ∙ length-replicate size erased ∙ sym k)
     ∙ ap (λ (l : List ℕ). over start l flash) last

@@ -29,8 +29,8 @@ unfolding sector_turn or_refuse error_values
 returns-then-actual-expected c =
     let a = c.args in
     let expected = a.command.cd_length * sector_size in
-    let fit = within a.sectors a.command.cd_address a.command.cd_length c.in-Within.range
-    (sym c.flash_range.ensures ∙ ap range_told c.in-Within.is) in
+    let fit = within a.sectors a.command.cd_address a.command.cd_length c.in-Ok.range
+    (sym c.flash_range.ensures ∙ ap range_told c.in-Ok.is) in
     refused_as a.reset (InvalidTransferLength expected a.actual) 50 (expected ∷ a.actual ∷ []) refl c.refuse-then-actual-expected.ensures
     (rw (fit.0, ne_eqb a.actual expected c.if-actual-expected.true) refl)
 
@@ -39,8 +39,8 @@ unfolding sector_turn or_refuse
 returns c =
     let a = c.args in
     let expected = a.command.cd_length * sector_size in
-    let fit = within a.sectors a.command.cd_address a.command.cd_length c.in-Within.range
-    (sym c.flash_range.ensures ∙ ap range_told c.in-Within.is) in
+    let fit = within a.sectors a.command.cd_address a.command.cd_length c.in-Ok.range
+    (sym c.flash_range.ensures ∙ ap range_told c.in-Ok.is) in
     let moved : c.moved_by.result ≡ moved_by a.variety a.direction (range_of a.command) =
     c.moved_by.ensures ∙ ap (moved_by a.variety a.direction) fit.1 in
     done_as (Status a.command SUCCESS) a.reset (moved_by a.variety a.direction (range_of a.command))

@@ -27,8 +27,8 @@ pub returns-then-splits : goal.returns-then-splits
 unfolding erase_turn erase_rules or_refuse error_values
 returns-then-splits c =
     let a = c.args in
-    let fit = within a.sectors a.command.cd_address a.command.cd_length c.in-Within.range
-    (sym c.flash_range.ensures ∙ ap range_told c.in-Within.is) in
+    let fit = within a.sectors a.command.cd_address a.command.cd_length c.in-Ok.range
+    (sym c.flash_range.ensures ∙ ap range_told c.in-Ok.is) in
     refused_as a.reset UnalignedErase 63 [] refl c.refuse-then-splits.ensures
     (rw (fit.0, sym c.splits.ensures ∙ c.if-splits.true) refl)
 
@@ -36,8 +36,8 @@ pub returns : goal.returns
 unfolding erase_turn erase_rules or_refuse
 returns c =
     let a = c.args in
-    let fit = within a.sectors a.command.cd_address a.command.cd_length c.in-Within.range
-    (sym c.flash_range.ensures ∙ ap range_told c.in-Within.is) in
+    let fit = within a.sectors a.command.cd_address a.command.cd_length c.in-Ok.range
+    (sym c.flash_range.ensures ∙ ap range_told c.in-Ok.is) in
     done_as (Status a.command SUCCESS) a.reset (Fill (range_of a.command))
     (c.settle.ensures ∙ ap (λ (x : FlashRange). settled (Status a.command SUCCESS) a.reset (Fill x)) fit.1)
     (rw (fit.0, sym c.splits.ensures ∙ c.if-splits.false) refl)

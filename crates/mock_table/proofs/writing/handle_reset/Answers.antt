@@ -10,10 +10,10 @@ use Rattle.mock_base.specs.Told.{error_values}
 use Rattle.mock_base.specs.declared.error.MockTransportError.TheVariants.{InvalidReset}
 use Rattle.mock_table.specs.Table.{stored_reset}
 use Rattle.mock_table.specs.declared.session.CommandState.TheVariants.{Status}
-use Rattle.mock_table.specs.declared.session.LastReset.TheVariants.{Some}
 use Rattle.mock_table.specs.declared.outcome.Effect.TheVariants.{Nothing}
 use Rattle.mock_table.proofs.Meets.{refused_as, done_as}
 use Rattle.mock_table.proofs.writing.handle_reset.Goals as goal
+use Rattle.std.specs.declared.option.Option.TheVariants.{Some}
 
 pub returns-in_default : goal.returns-in_default
 unfolding stored_reset reset_read_told reset_of error_values
@@ -21,14 +21,14 @@ returns-in_default c =
     let a = c.args in
     let byte = a.command.cd_opcode in
     let read : reset_of byte ≡ refused 52 (byte ∷ []) =
-    known_refused 52 reset_number reset_opcodes byte 52 (c.in_default.field-0 ∷ [])
-    (sym c.from_number.ensures ∙ ap reset_read_told c.in_default.is) in
+    known_refused 52 reset_number reset_opcodes byte 52 (c.in_default.field-0.0 ∷ [])
+    (sym c.try_from.ensures ∙ ap reset_read_told c.in_default.is) in
     refused_as a.reset (InvalidReset byte) 52 (byte ∷ []) refl c.refuse.ensures (rw read refl)
 
 pub returns : goal.returns
 unfolding stored_reset reset_read_told
 returns c =
     let a = c.args in
-    let read : reset_of a.command.cd_opcode ≡ given c.in-Known.known =
-    sym c.from_number.ensures ∙ ap reset_read_told c.in-Known.is in
-    done_as (Status a.command SUCCESS) (Some c.in-Known.known) Nothing c.settle.ensures (rw read refl)
+    let read : reset_of a.command.cd_opcode ≡ given c.in-Ok.known =
+    sym c.try_from.ensures ∙ ap reset_read_told c.in-Ok.is in
+    done_as (Status a.command SUCCESS) (Some c.in-Ok.known) Nothing c.settle.ensures (rw read refl)

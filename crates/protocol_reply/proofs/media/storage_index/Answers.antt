@@ -20,4 +20,4 @@ unfolding read_storage storage_told only_place
 returns c =
     let word = c.u32_from_le_bytes-word in
     let small : word.result < 2 ^ 32 = search rules in
-    rw (← word.ensures, one_place 32 0 word.result small c.if-word-ne1.false, zero-add) (ap given c.from_number.ensures)
+    rw (← word.ensures, one_place 32 0 word.result small c.if-word-ne1.false, zero-add) (ap given c.from.ensures)

@@ -11,6 +11,7 @@ use Rattle.mock_base.specs.Told.{Answers}
 use Rattle.deck.specs.Bench.{bench_at, fresh_bench, start_told}
 use Rattle.deck.proofs.BenchLaws.{refused_left, done_cleared}
 use Rattle.deck.proofs.bench.Bench.new.Goals as goal
+use Rattle.deck.proofs.bench.Bench.new.Goals.{in-Ok, in_default}
 
 -- what the device's creation says of answer and bench
 tells : (r : MockStep) (config : MockDeviceConfig) (flash store : ℕ) → CreateMeets r (created First config flash store) → Answers r.answer (start_told flash)
@@ -23,26 +24,19 @@ unfolding created
 fresh r config flash store e m =
     ap (λ (d : MockState). bench_at d 0 0) (m.fresh ∙ ap (λ (k : MockDeviceConfig). fresh_state First k store) e)
 
-pub returns-in_default : goal.returns-in_default
-returns-in_default c =
-    let a = c.args in
-    let config = c.default in
-    let made = c.new-made in
-    let m = tells made.result config.result (length a.flash.now) (length a.store.now) made.ensures in
-    record {
-      tells = m;
-      fresh = fresh made.result config.result (length a.flash.now) (length a.store.now) config.ensures made.ensures;
-      leaves = refused_left made.result.answer _ (start_told (length a.flash.now)) a.flash.now m c.in_default.is;
-    }
-
 pub returns : goal.returns
 returns c =
     let a = c.args in
     let config = c.default in
     let made = c.new-made in
+    let told = start_told (length a.flash.now) in
     let m = tells made.result config.result (length a.flash.now) (length a.store.now) made.ensures in
     record {
       tells = m;
       fresh = fresh made.result config.result (length a.flash.now) (length a.store.now) config.ensures made.ensures;
-      leaves = c.clear.ensures ∙ done_cleared made.result.answer (start_told (length a.flash.now)) a.flash.now m c.in-Done.is;
+      leaves =
+          elim c.match-made.branch [
+            | in-Ok w ↦ w.flash-is ∙ w.fill.ensures.after (λ y e. e) ∙ done_cleared made.result.answer _ told a.flash.now m w.in-Ok.is
+            | in_default w ↦ w.flash-is ∙ refused_left made.result.answer _ told a.flash.now m w.in_default.is
+          ];
     }

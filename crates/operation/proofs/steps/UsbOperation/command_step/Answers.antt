@@ -18,14 +18,14 @@ returns-in_default c =
 pub zero_tail-requires : goal.zero_tail-requires
 zero_tail-requires c =
     let a = c.args in
-    let w = written_whole a.self.command a.out.now c.to_bytes.new.out c.to_bytes.result _ c.in-Bytes.is c.to_bytes.ensures.write_meets in
+    let w = written_whole a.self.command a.out.now c.to_bytes.new.out c.to_bytes.result _ c.in-Ok.is c.to_bytes.ensures.write_meets in
     omega (arith, w.0, c.to_bytes.auto.out)
 
 pub returns : goal.returns
 unfolding step_told beside_at beside_asks
 returns c =
     let a = c.args in
-    let w = written_whole a.self.command a.out.now c.to_bytes.new.out c.to_bytes.result _ c.in-Bytes.is c.to_bytes.ensures.write_meets in
+    let w = written_whole a.self.command a.out.now c.to_bytes.new.out c.to_bytes.result _ c.in-Ok.is c.to_bytes.ensures.write_meets in
     let out = c.zero_tail.new.out in
     let sent : out ≡ front (command_out a.self) a.out.now =
     c.zero_tail.ensures ∙ rw w.1 (front_tail (command_bytes a.self.command) (replicate 7 0) a.out.now (command_bytes_long a.self.command) refl) in

@@ -6,4 +6,5 @@ use Rattle.operation.proofs.steps.UsbOperation.finish_step.Goals as goal
 pub returns : goal.returns
 unfolding finish_step
 returns c = λ out.
-    rw (← c.turned_to-next.ensures) (finish_meets c.finish_of-end.result c.turned_to-next.result _ out c.finish_of-end.ensures)
+    rw (c.finished.ensures, ← c.turned_to.ensures)
+    (finish_meets c.finish_of-end.result c.turned_to.result _ out c.finish_of-end.ensures)

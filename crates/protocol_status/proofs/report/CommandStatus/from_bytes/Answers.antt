@@ -7,12 +7,12 @@ use mathlib.Core.Path.{◌≡◌, refl, ap, sym, ◌∙◌}
 use lib.ListN.{length, take}
 use Rattle.protocol_bytes.specs.Signature.{usbs, same}
 use Rattle.protocol_status.specs.declared.report.CommandStatus.{CommandStatus}
-use Rattle.protocol_status.specs.declared.report.StatusAnswer.TheVariants.{Block}
-use Rattle.protocol_status.specs.Code.{parsed}
+use Rattle.protocol_bytes.specs.Signature.{parsed}
 use Rattle.protocol_bytes.proofs.Short.{field_elements}
 use Rattle.protocol_codes.specs.Reading.{status_read_told}
 use Rattle.protocol_status.proofs.Reading.{meets_short, meets_unsigned, meets_unknown, meets_given}
 use Rattle.protocol_status.proofs.report.CommandStatus.from_bytes.Goals as goal
+use Rattle.std.specs.declared.result.Result.TheVariants.{Ok}
 
 pub returns-then-bytes-lt-COMMAND_STATUS_BYTES : goal.returns-then-bytes-lt-COMMAND_STATUS_BYTES
 returns-then-bytes-lt-COMMAND_STATUS_BYTES c = meets_short c.args.bytes.now c.parsed.result c.if-bytes-lt-COMMAND_STATUS_BYTES.true c.parsed.ensures
@@ -30,13 +30,13 @@ unfolding status_read_told
 returns-in_default c =
     let bytes = c.args.bytes.now in
     let own : same (take 4 bytes) usbs ≡ true = sym c.starts_with.ensures ∙ c.if-not-starts_with.false in
-    meets_unknown bytes c.parsed-in_default.result 7 (c.in_default.field-0 ∷ []) c.if-bytes-lt-COMMAND_STATUS_BYTES.false own
-    (sym c.from_number.ensures ∙ ap status_read_told c.in_default.is) c.parsed-in_default.ensures
+    meets_unknown bytes c.parsed-in_default.result 7 (c.in_default.field-0.0 ∷ []) c.if-bytes-lt-COMMAND_STATUS_BYTES.false own
+    (sym c.try_from.ensures ∙ ap status_read_told c.in_default.is) c.parsed-in_default.ensures
 
 pub returns : goal.returns
 unfolding status_read_told
 returns c =
     let bytes = c.args.bytes.now in
     let own : same (take 4 bytes) usbs ≡ true = sym c.starts_with.ensures ∙ c.if-not-starts_with.false in
-    meets_given bytes c.parsed-2.result c.in-Known.status c.if-bytes-lt-COMMAND_STATUS_BYTES.false own
-    (sym c.from_number.ensures ∙ ap status_read_told c.in-Known.is) (c.parsed-2.ensures ∙ ap (λ (s : CommandStatus). parsed (Block s)) c.report_of.ensures)
+    meets_given bytes c.parsed-2.result c.in-Ok.status c.if-bytes-lt-COMMAND_STATUS_BYTES.false own
+    (sym c.try_from.ensures ∙ ap status_read_told c.in-Ok.is) (c.parsed-2.ensures ∙ ap (λ (s : CommandStatus). parsed (Ok s)) c.report_of.ensures)

@@ -1,0 +1,2 @@
+-- Programs that the contracts rule out.
+pub mod Wrong

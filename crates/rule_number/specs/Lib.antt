@@ -1,0 +1,2 @@
+-- The number of an answer that is a value or a refusal.
+pub mod Number
