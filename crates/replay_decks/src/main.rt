@@ -13,6 +13,7 @@ use replay_lines::buffer::first;
 use replay_lines::input::Input;
 use replay_lines::names::Call;
 use replay_lines::tokens::Tokens;
+use rule_number::RuleNumber;
 use std::io::{Result, Write};
 use rule_number::RuleNumber;
 

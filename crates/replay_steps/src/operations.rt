@@ -4,9 +4,8 @@ use operation::starts::{
     UsbStart, capability, chip_info, erase_force, erase_lba, flash_id, flash_info, read_lba,
     reset_device, storage, switch_storage, write_lba,
 };
-use operation::steps::{UsbOperation, UsbStep};
-use operation_finish::{Beside, FinishAnswer, SectorTransfer, UsbReply};
-use protocol_reply::size::SectorAnswer;
+use operation::steps::{StepError, UsbOperation, UsbStep};
+use operation_finish::{Beside, SectorTransfer, UsbReply};
 use replay_answers::answer::{Answer, Tail};
 use replay_answers::refusals::operation_error;
 use replay_answers::told::Told;
@@ -16,6 +15,7 @@ use replay_lines::buffer::{copy, first, first_mut};
 use replay_lines::data::LEN;
 use replay_lines::names::OperationName;
 use replay_lines::tokens::Tokens;
+use rule_number::RuleNumber;
 
 // The current operation, where there is one, and the buffer that the caller's data stands in.
 #[derive(Drop)]
@@ -50,7 +50,8 @@ fn transfer_value(transfer: SectorTransfer) -> Told {
     }
 }
 
-fn reply_value(reply: UsbReply, beside: Beside) -> Answer {
+// What a finished operation tells: 0 with its value.
+pub fn reply_value(reply: UsbReply, beside: Beside) -> Answer {
     let none = Told::of(0, &[]);
     match reply {
         UsbReply::ChipInfo => Answer::with_small(none, &beside.chip_info.inner()),
@@ -63,14 +64,6 @@ fn reply_value(reply: UsbReply, beside: Beside) -> Answer {
     }
 }
 
-// What a finished operation tells: 0 with its value, or 10 to 15.
-pub fn finished(answer: FinishAnswer, beside: Beside) -> Answer {
-    match answer {
-        FinishAnswer::Replied(reply) => reply_value(reply, beside),
-        FinishAnswer::Failed(error) => Answer::from(operation_error(error, beside.signature)),
-    }
-}
-
 fn step_answer(step: UsbStep, beside: Beside) -> Answer {
     match step {
         UsbStep::WriteCommand => Answer::with_tail(Told::of(0, &[1]), Tail::Room(31)),
@@ -78,8 +71,14 @@ fn step_answer(step: UsbStep, beside: Beside) -> Answer {
         UsbStep::ReadInband(n) | UsbStep::ReadData(n) | UsbStep::ReadStatus(n) => {
             Answer::from(Told::of(0, &[2, n as u64]))
         }
-        UsbStep::Finished(answer) => finished(answer, beside).as_finish(),
-        _ => Answer::from(Told::of(step.number(), &[])),
+        UsbStep::Finished(reply) => reply_value(reply, beside).as_finish(),
+    }
+}
+
+fn step_refused(error: StepError, beside: Beside) -> Told {
+    match error {
+        StepError::Failed(error) => operation_error(error, beside.signature),
+        _ => Told::of(error.number(), &[]),
     }
 }
 
@@ -100,7 +99,7 @@ impl Operations<'_> {
         } else {
             write_lba(tag, sector, length)
         };
-        if let SectorAnswer::Count(_) = answer {
+        if answer.is_ok() {
             copy(first(length, data), self.own);
             self.current = Some(Held {
                 record: operation,
@@ -134,7 +133,11 @@ impl Operations<'_> {
             record: done.next,
             length,
         });
-        Some(step_answer(done.step, done.beside).with_room(len))
+        let answer = match done.step {
+            Ok(step) => step_answer(step, done.beside),
+            Err(error) => Answer::from(step_refused(error, done.beside)),
+        };
+        Some(answer.with_room(len))
     }
 
     // `giv`

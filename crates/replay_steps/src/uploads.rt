@@ -1,11 +1,12 @@
 // "Uploads": the current upload, stepped by hand.
 use crate::held::Held;
-use maskrom::{Control, UploadStart, UploadStep, WholeStart, WholeUpload, write_area};
+use maskrom::{Control, UploadError, UploadStep, WholeStart, WholeUpload, write_area};
 use replay_answers::answer::Answer;
 use replay_answers::told::Told;
 use replay_lines::buffer::{copy, first, first_mut};
 use replay_lines::data::IMAGE;
 use replay_lines::tokens::Tokens;
+use rule_number::RuleNumber;
 
 // The current upload, where there is one, and the buffer that its image stands in.
 #[derive(Drop)]
@@ -35,11 +36,11 @@ fn control_told(control: Control) -> Told {
     )
 }
 
-fn step_told(step: UploadStep) -> Told {
+fn step_told(step: Result<UploadStep, UploadError>) -> Told {
     match step {
-        UploadStep::WriteControl(control) => control_told(control),
-        UploadStep::Finished => Told::of(0, &[3]),
-        _ => Told::of(step.number(), &[]),
+        Ok(UploadStep::WriteControl(control)) => control_told(control),
+        Ok(UploadStep::Finished) => Told::of(0, &[3]),
+        Err(error) => Told::of(error.number(), &[]),
     }
 }
 
@@ -53,7 +54,7 @@ impl Uploads<'_> {
         let image = first(length, data);
         copy(image, self.image);
         let WholeStart { start, upload } = write_area(area, image);
-        if let UploadStart::Started = start {
+        if start.is_ok() {
             self.current = Some(Held {
                 record: upload,
                 length,
