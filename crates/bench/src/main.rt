@@ -3,13 +3,12 @@
 #![tactic(auto)]
 
 use deck::bench::Bench;
-use deck_chunk::{ChunkAnswer, Deck};
+use deck_chunk::Deck;
 use deck_io::complaint::complain;
 use deck_io::input::{End, fill, usable_bytes};
 use deck_io::output::write_out;
 use deck_io::within;
 use std::io::{Read, Write};
-use rule_number::RuleNumber;
 
 // A deck on its way, chunk by chunk. There is room for the lines of every block of a chunk, so that it is not refused.
 #[derive(Drop)]
@@ -63,7 +62,7 @@ impl<R: Read + Drop, W: Write + Drop, E: Write + Drop> Run<R, W, E> {
             &mut self.store,
         );
         self.deck = step.deck;
-        let ChunkAnswer::Dealt(count) = step.answer else {
+        let Ok(count) = step.answer else {
             complain(
                 &mut self.errors,
                 "bench: a chunk was refused by 20: this program has to be mended",
@@ -95,7 +94,7 @@ fn main(rt: HostRuntime) {
     let mut flash = [0; 65536];
     let store = [0; 65536];
     let start = Bench::new(&mut flash, &store);
-    if start.answer.result.number() != 0 {
+    if start.answer.result.is_err() {
         complain(
             &mut errors,
             "bench: the stand-in refused its flash by 60 or 61: this program has to be mended",

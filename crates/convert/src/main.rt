@@ -47,6 +47,7 @@ fn say_done<E: Write>(errors: &mut E, convert: Convert, rest: usize) {
     }
 }
 
+// Stays beside that of recheck: each program says its own text.
 fn say_unread<E: Write>(errors: &mut E, blocks: u64) {
     complain(
         errors,

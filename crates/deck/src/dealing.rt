@@ -29,6 +29,7 @@ fn filled(fill: u8) -> [u8; 8192]
 }
 
 // An operation without sector data.
+// The device and each lent buffer stay parameters of their own, here and in the runs: a contract names every one of them before and after.
 fn command(operation: UsbOperation, device: MockState, flash: &mut [u8], store: &[u8]) -> Dealt
     ensures { DealMeets result flash.new store.now (operate operation [] (head device flash.old store.now)) }
 {
@@ -106,6 +107,7 @@ fn upload_filled(
 fn plain_start(tag: u32, request: Request) -> UsbOperation
     ensures { result ≡ plain_start tag request }
 {
+    // Stays a `match`: each request has a command of its own.
     match request {
         Request::ChipInfo => chip_info(tag),
         Request::FlashId => flash_id(tag),
@@ -130,6 +132,7 @@ fn deal_request(
     requires { Fits request }
     ensures { DealMeets result flash.new store.new (carry_out tag request (head device flash.old store.old)) }
 {
+    // Stays a `match`: three requests bring data, and each is lent other buffers.
     match request {
         Request::ReadLba(first, count) => { read_sectors(tag, first, count, device, flash, store) }
         Request::WriteLba(first, count, fill) => {

@@ -67,6 +67,7 @@ impl RuleNumber for CardError {
 // The fields of a block: byte 0, bytes 1 to 4, bytes 5 and 6, byte 7, bytes 510 and 511.
 #[derive(Clone, Copy, Debug, PartialEq, Eq)]
 pub struct Fields {
+    // the byte as it stands in the block, whatever it is: `request_of` makes a `Request` of it
     pub kind: u8,
     pub word: u32,
     pub half: u16,

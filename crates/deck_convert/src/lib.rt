@@ -14,6 +14,7 @@ const BLOCK: usize = 512;
 const UPLOAD: u8 = 12;
 
 // Upload without check.
+// Stays a number: it is looked for in the block's bytes, before they are a request.
 const WITHDRAWN: u8 = 13;
 
 // A deck between two chunks: the tag of its last block, how many blocks were converted, and how many of kind 13 were left as they are because their

@@ -48,6 +48,7 @@ pub fn fill<R: Read, E: Write>(
     ensures ends_if { EndsIf (has_failed result.end) (is_over result.end) }
 {
     let mut count = 0;
+    // Stays a `while`: each read says how far it came.
     while count < chunk.len() {
         match read_some(from, &mut chunk[count..]) {
             Ok(0) => {
@@ -74,6 +75,7 @@ pub fn read_full<R: Read>(from: &mut R, buffer: &mut [u8]) -> Result<usize>
     ensures { ReadsAtMost result buffer.new }
 {
     let mut count = 0;
+    // Stays a `while`, as that of `fill`.
     while count < buffer.len() {
         let more = read_some(from, &mut buffer[count..])?;
         if more == 0 {

@@ -35,6 +35,7 @@ pub fn write_out<W: Write, E: Write>(
     ensures { Moved (is_shut result) (written result) (length bytes.now) }
 {
     let mut count = 0;
+    // Stays a `while`: each write says how far it came.
     while count < bytes.len() {
         match write_some(to, &bytes[count..]) {
             Ok(0) => return Err(Shut(count)),

@@ -5,7 +5,7 @@ use mathlib.Core.Bool.{Bool}
 use mathlib.Core.List.{List, [], ◌∷◌, ◌++◌, append-nil}
 use native.Mathlib.Numerals.{add-one}
 use native.Mathlib.Omega.{arith}
-use lib.ListN.{length, get_or, take, drop, set, replicate, length-append, length-replicate, drop_of_length-le}
+use lib.ListN.{length, get_or, take, drop, set, replicate, length-append, drop_of_length-le}
 use lib.Seq.{take-append_seam, set-append_seam, append_snoc, drop-cons}
 use borrow.Author.Tests.{lt-ltb, le-ltb}
 use Rattle.promise.specs.Rules.{pick}
@@ -134,14 +134,6 @@ whole_line text h = more [] text (omega arith)
 -- the text, read off its line
 pub text_of : (l : Line) (text : List ℕ) → l ≡ line text → take l.used l.bytes ≡ text
 text_of l text e = ap (λ (x : Line). take x.used x.bytes) e ∙ take-append_seam text (replicate (64 - length text) 0)
-
--- what the array holds is no longer than the array
-pub fits_array : (l : Line) (text : List ℕ) → l ≡ line text → length l.bytes ≡ 64 → length text ≤ 64
-fits_array l text e h =
-    let all : length text + (64 - length text) ≡ 64 =
-    sym (length-append text (replicate (64 - length text) 0) ∙ ap (λ (k : ℕ). length text + k) (length-replicate (64 - length text) 0))
-    ∙ sym (ap (λ (x : Line). length x.bytes) e) ∙ h in
-    omega arith
 
 -- a number of 64 bits has 20 digits at most, one of 32 bits 10, and one of 8 bits 3
 pub digits_20 : (n : ℕ) → n < 2 ^ 64 → length (decimal n) ≤ 20

@@ -17,12 +17,14 @@ use rule_number::RuleNumber;
 const LONGEST: usize = 64;
 
 // The text is the first `used` bytes, and every other byte is 0.
+// Stays an array with its count: nothing here allocates, and a line is made by value.
 #[derive(Clone, Copy, Debug, PartialEq, Eq)]
 pub struct Line {
     pub bytes: [u8; 64],
     pub used: usize,
 }
 
+// Digits stay put by hand: `line_text` pins each byte by `decimal` and `hex`, and a `write!` would answer a `Result` at each of them.
 fn digit_of(value: u8) -> u8
     requires { value < 16 }
     ensures { result ≡ digit value }
@@ -83,6 +85,7 @@ impl Line {
     fn put_value(self, reply: UsbReply, beside: Beside) -> Line
         ensures { PutShort result self (value_text (reply_given reply beside)) }
     {
+        // Stays a `match`: each kind of reply has a wrapper of its own beside it.
         match reply {
             UsbReply::ChipInfo => self.put_hex(&beside.chip_info.0),
             UsbReply::FlashId => self.put_hex(&beside.flash_id.0),

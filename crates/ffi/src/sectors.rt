@@ -55,6 +55,7 @@ fn counts_after(verdict: Result<UsbReply, RefusalNumber>, before: [u32; 2]) -> [
 }
 
 // The whole run of an operation that leaves sectors in `data`.
+// Stays beside `write_on`, and `read_sectors` beside `write_sectors`: C lends the data of a write for reading alone.
 fn read_on(operation: UsbOperation, flash: &mut [u8], data: &mut [u8], counts: &mut [u32; 2]) -> u8
     ensures { SectorsMeet result flash.new «data».new counts.new (run_at operation flash.old «data».old counts.old) }
 {

@@ -34,6 +34,7 @@ fn name_of(b: &[u8; 57]) -> [u16; 20]
     ensures { result ≡ name_of b.now }
 {
     let mut name = [0; 20];
+    // Stays a `for` by places: with `array::from_fn` the proof has to ask each of twenty calls what it gave.
     for i in 0..20 {
         name[i] = u16_from_le_bytes([b[5 + 2 * i], b[6 + 2 * i]]);
     }

@@ -46,6 +46,7 @@ pub struct WalkStep {
 pub fn list_at(header: RkBootHeader, list: u8) -> RkBootHeaderEntry
     ensures { result ≡ list_at header list }
 {
+    // Stays a number and its `match`: a walk is a record of any values, and a list above 2 is `loader`'s.
     match list {
         0 => header.entry_471,
         1 => header.entry_472,

@@ -32,20 +32,6 @@ asks_write Check area n h = refl
 asks_write Dummy area n h = refl
 asks_write Done area n h = absurd (miss (0 ∷ 1 ∷ 2 ∷ []) 3 tt h)
 
-pub is_closed : (steps : MaskRomSteps) → OneOf (1 ∷ 2 ∷ 3 ∷ []) (tag_of the_type steps) → closed steps ≡ true
-unfolding closed
-is_closed Writing h = absurd (miss (1 ∷ 2 ∷ 3 ∷ []) 0 tt h)
-is_closed Check h = refl
-is_closed Dummy h = refl
-is_closed Done h = refl
-
-pub sends_none : (steps : MaskRomSteps) → OneOf (1 ∷ 2 ∷ 3 ∷ []) (tag_of the_type steps) → most steps ≡ 0
-unfolding most
-sends_none Writing h = absurd (miss (1 ∷ 2 ∷ 3 ∷ []) 0 tt h)
-sends_none Check h = refl
-sends_none Dummy h = refl
-sends_none Done h = refl
-
 pub most_block : (steps : MaskRomSteps) → most steps ≤ 4096
 unfolding most
 most_block Writing = omega arith

@@ -1,25 +1,16 @@
 -- Laws on lists that the library lacks.
 use Prim.Native.Nat.{ℕ, zero, suc, ◌+◌, ◌-◌, ◌≤◌, min}
-use mathlib.Core.Path.{◌≡◌, refl, ap, sym, ◌∙◌}
+use mathlib.Core.Path.{◌≡◌, ap, sym, ◌∙◌}
 use mathlib.Core.List.{List, [], ◌∷◌, ◌++◌, append-nil}
 use native.Mathlib.Nat.{zero-min, min-zero, suc-min-suc}
 use native.Mathlib.Omega.{arith}
 use lib.ListN.{length, take, drop, length-append, length-take, length-drop, drop_of_length-le}
-use lib.Seq.{take_all, take-length, take-append_seam, drop-drop}
-use borrow.Rule.Slice.PartMut.{put_mid}
+use lib.Seq.{take-append_seam}
 use Rattle.promise.specs.Bytes.{front}
 use Rattle.maskrom_transfer.proofs.Lists.{take_min}
 
 pub take_front : (bs old : List ℕ) → take (length bs) (front bs old) ≡ bs
 take_front bs old = take-append_seam bs (drop (length bs) old)
-
--- a part of a block that was lent from `at` on, and came back with `ys` copied to its front
-pub put_mid_lem : (b : List ℕ) (at : ℕ) (ys l : List ℕ) → length b ≡ 4096 → at + length ys ≤ 4096
-    → l ≡ take (length ys) ys ++ drop (length ys) (take (4096 - at) (drop at b))
-    → put_mid at (4096 - at) b l ≡ take at b ++ (ys ++ drop (at + length ys) b)
-put_mid_lem b at ys l hb hy e =
-    let h : length (drop at b) ≤ 4096 - at = simp length-drop (omega arith) in
-    rw (e, take-length ys, take_all (4096 - at) (drop at b) h, drop-drop (length ys) at b, drop_of_length-le (drop at b) h, append-nil) refl
 
 pub drop_min : (k : ℕ) (l : List ℕ) → drop (min k (length l)) l ≡ drop k l
 drop_min zero l = rw zero-min

@@ -100,6 +100,7 @@ impl RuleNumber for ImageTooLong {
 }
 
 // A part-wise upload. The first `taken % 4096` bytes of the block wait for their transfer; the check covers all that was taken.
+// Stays a block with its count: nothing here allocates, and `taken` counts the whole image.
 #[derive(Clone, Copy, Debug, PartialEq, Eq)]
 pub struct MaskRomOperation {
     pub area: u16,
@@ -109,6 +110,7 @@ pub struct MaskRomOperation {
     pub block: [u8; 4096],
 }
 
+// Stays beside `CloseStepped` and `WholeStepped`: a step's answer and the next record, three kinds of them in three promises (`PartMeets`, `CloseMeets`, `StepMeets`).
 #[derive(Clone, Copy, Debug, PartialEq, Eq)]
 pub struct PartStepped {
     pub step: Result<PartStep, PartError>,

@@ -131,6 +131,7 @@ pub fn send_lent(
 }
 
 // The same, of the first n bytes of a block.
+// Stays beside `send_lent`: a block by value with its count, as a record holds it.
 pub fn send(
     steps: MaskRomSteps,
     crc: u16,

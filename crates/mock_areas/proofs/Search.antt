@@ -1,28 +1,17 @@
--- The first place that passes a test: looked for from place i on, and after one element was changed.
-use Prim.Native.Nat.{ℕ, zero, suc, ◌+◌, ◌≤◌, ◌<◌}
+-- The first place that passes a test, also after one element was changed.
+use Prim.Native.Nat.{ℕ, zero, suc, ◌≤◌, ◌<◌}
 use mathlib.Core.Path.{◌≡◌, refl, ap, sym, ◌∙◌}
 use mathlib.Core.Bool.{Bool, true, false}
 use mathlib.Core.List.{List, [], ◌∷◌}
-use native.Mathlib.Numerals.{add-one}
 use native.Mathlib.Omega.{arith}
 use lib.Dec.{ltb}
-use lib.ListN.{length, drop, get_or, set}
-use lib.Seq.{drop-cons}
+use lib.ListN.{length, get_or, set}
 use borrow.Author.Tests.{ltb-true, ltb-false}
 use Rattle.promise.specs.Rules.{pick}
 use Rattle.promise.proofs.Outcome.{by_test, on_test}
 use Rattle.mock_areas.specs.Slots.{slot_count, first_at, among_slots}
 use Rattle.std.specs.Prelude.{position}
 use Rattle.std.specs.List.{position_or_len}
-
-module _ {A : Type 0} (test : A → Bool) (xs : List A) (i : ℕ) (d : A) (inside : i < length xs) where
-  pub first_here : test (get_or xs i d) ≡ true → i + first_at test (drop i xs) ≡ i
-  unfolding first_at
-  first_here e = rw (drop-cons xs i d inside, e) (omega arith)
-
-  pub first_past : test (get_or xs i d) ≡ false → i + first_at test (drop i xs) ≡ i + 1 + first_at test (drop (i + 1) xs)
-  unfolding first_at
-  first_past e = rw (add-one i, drop-cons xs i d inside, e) (omega arith)
 
 module _ {A : Type 0} (test : A → Bool) (d : A) where
   -- what is found passes

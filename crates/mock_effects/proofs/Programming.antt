@@ -6,7 +6,7 @@ use mathlib.Core.List.{List, [], ◌∷◌, ◌++◌}
 use native.Mathlib.Numerals.{add-one}
 use native.Mathlib.Omega.{arith}
 use lib.Bits.{bit_and, and_comm, and_mask}
-use lib.ListN.{length, take, drop, set, get_or, replicate, length-append, length-take, length-drop}
+use lib.ListN.{length, take, drop, set, get_or, replicate, length-take, length-drop}
 use lib.Seq.{drop-cons, set_at, get_or_at, take_all, take-length, ext_get_or}
 use borrow.Rule.Slice.PartMut.{put_mid}
 use Rattle.promise.specs.Rules.{pick}
@@ -64,9 +64,6 @@ module _ (i : ℕ) (asked part : List ℕ) (fits : length asked ≤ length part)
   taken_long : i ≤ length asked → length (programmed (take i asked) part) ≡ i
   taken_long h = length_programmed (take i asked) part ∙ simp length-take (omega arith)
 
-  pub length_so_far : i ≤ length asked → length (so_far i asked part) ≡ length part
-  length_so_far h = let k = taken_long h in simp (length-append, length-drop) (omega arith)
-
   pub next_so_far : i < length asked → set (so_far i asked part) i (bit_and (get_or part i 0) (get_or asked i 0)) ≡ so_far (i + 1) asked part
   next_so_far h =
       let there : i < length part = omega arith in
@@ -101,24 +98,19 @@ module _ (at : ℕ) (asked flash : List ℕ) (inside : at + length asked ≤ len
       (e ∙ ap (λ (l : List ℕ). front (programmed asked l) (take (length flash - at) (drop at flash))) all_the_rest
       ∙ ap (λ (l : List ℕ). l ++ drop (length now) (take (length flash - at) (drop at flash))) (sym (take-length now)))
 
--- what the cells tell is what stands there
+by_status_lem : (all : Bool) → pick all SUCCESS FAILED ≡ SUCCESS → all ≡ true
+by_status_lem true e = refl
+by_status_lem false e = let z : ◌≡◌ {A = ℕ} 0 1 = cc in absurd (omega arith)
 
-by_status_lem : (all : Bool) → (pick all SUCCESS FAILED ≡ SUCCESS → all ≡ true) × (pick all SUCCESS FAILED ≡ FAILED → all ≡ false)
-by_status_lem true = ((λ e. refl), (λ e. let z : ◌≡◌ {A = ℕ} 0 1 = cc in absurd (omega arith)))
-by_status_lem false = ((λ e. let z : ◌≡◌ {A = ℕ} 0 1 = cc in absurd (omega arith)), (λ e. refl))
-
+-- what the cells tell is what stands there: success where each byte is the one asked, FAILED where some byte is another
 module _ (bytes old : List ℕ) where
-  -- success: each byte is the one asked; FAILED: some byte is another
   pub told_success : cells_told bytes old ≡ SUCCESS → programmed bytes old ≡ bytes
   unfolding cells_told
-  told_success e = same_equal (programmed bytes old) bytes ((by_status_lem (took bytes old)).0 e)
+  told_success e = same_equal (programmed bytes old) bytes (by_status_lem (took bytes old) e)
 
   pub tells_success : programmed bytes old ≡ bytes → cells_told bytes old ≡ SUCCESS
   unfolding cells_told
   tells_success e = let t : took bytes old ≡ true = ap (λ (l : List ℕ). same l bytes) e ∙ same_itself bytes in ap (λ (b : Bool). pick b SUCCESS FAILED) t
-
-  pub told_failed : cells_told bytes old ≡ FAILED → programmed bytes old ≡ bytes → ⊥
-  told_failed e same = let f : SUCCESS ≡ FAILED = sym (tells_success same) ∙ e in let z : ◌≡◌ {A = ℕ} 0 1 = cc in omega arith
 
   pub tells_failed : (programmed bytes old ≡ bytes → ⊥) → cells_told bytes old ≡ FAILED
   unfolding cells_told

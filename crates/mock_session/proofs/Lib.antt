@@ -1,6 +1,5 @@
--- `Unique` has that answers allowed by one contract are equal, `Sequence` that a sequence of thin calls is the same sequence by value, `Stepped` what
--- a by-value step hands back to a walk of the code, `Wrong` programs that the contracts rule out.
+-- `Unique` has that answers allowed by one contract are equal, `Sequence` that a sequence of thin calls is the same sequence by value, `Wrong`
+-- programs that the contracts rule out.
 pub mod Unique
 pub mod Sequence
-pub mod Stepped
 pub mod Wrong

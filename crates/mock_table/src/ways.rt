@@ -1,9 +1,8 @@
 // What the table asks of the flash's variety.
 ghost use Rattle.std.specs.Prelude.{◌≡◌};
-ghost use Rattle.mock_table.specs.Ways.{stored_by, moved_by, is_multiple, splits, switches, switched, tells_storage};
+ghost use Rattle.mock_table.specs.Ways.{stored_by, moved_by, is_multiple, splits, switches, switched};
 
 use super::outcome::Effect;
-use super::rows::has_code;
 use mock_base::cells::Variety;
 use mock_base::range::FlashRange;
 use protocol::CommandBlock;
@@ -51,14 +50,14 @@ pub(crate) fn splits(variety: Variety, block_size: u16, command: CommandBlock) -
     }
 }
 
-#[tactic(auto, unfolding(crate::specs::Ways::switches))]
+#[tactic(auto, unfolding(crate::specs::Ways::switches, crate::specs::Turn::has_code))]
 pub(crate) fn switches(variety: Variety, command: CommandBlock) -> bool
     ensures { result ≡ switches variety command }
 {
-    match variety {
-        Variety::First => false,
-        Variety::Nor => has_code(command, CommandCode::SwitchStorage),
-    }
+    matches!(
+        (variety, command.cd_code),
+        (Variety::Nor, CommandCode::SwitchStorage)
+    )
 }
 
 #[tactic(auto, unfolding(crate::specs::Ways::switched))]
@@ -69,15 +68,5 @@ pub(crate) fn switched(opcode: u8) -> Status
         Status::SUCCESS
     } else {
         Status::FAILED
-    }
-}
-
-#[tactic(auto, unfolding(crate::specs::Ways::tells_storage))]
-pub(crate) fn tells_storage(variety: Variety, command: CommandBlock) -> bool
-    ensures { result ≡ tells_storage variety command }
-{
-    match variety {
-        Variety::First => false,
-        Variety::Nor => has_code(command, CommandCode::GetStorageMedia),
     }
 }

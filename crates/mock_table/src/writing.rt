@@ -6,7 +6,7 @@ ghost use Rattle.mock_table.specs.Table.{reset_turn, erase_turn, zero_length_tur
 ghost use Rattle.protocol.specs.CommandBytes.{read_command};
 
 use super::outcome::{Effect, Outcome};
-use super::rows::{has_code, refuse, sector_io, settle};
+use super::rows::{Row, has_code};
 use super::session::{CommandState, Session};
 use super::ways::{splits, switched, switches};
 use mock_base::cells::Variety;
@@ -16,132 +16,107 @@ use protocol::{CommandBlock, CommandBlockParseError};
 use protocol_bytes::signature::Parse;
 use protocol_codes::{CommandCode, Direction, ResetOpcode, Status};
 
-#[tactic(auto, unfolding(crate::specs::Turn::is_erase))]
+#[tactic(auto, unfolding(crate::specs::Turn::is_erase, crate::specs::Turn::has_code))]
 fn is_erase(command: CommandBlock) -> bool
     ensures { result ≡ is_erase command }
 {
-    has_code(command, CommandCode::EraseLBA) || has_code(command, CommandCode::EraseForce)
-}
-
-fn handle_reset(reset: Option<ResetOpcode>, command: CommandBlock) -> Outcome
-    ensures { OutcomeMeets result (reset_turn reset command) }
-{
-    let opcode = command.cd_opcode;
-    let Ok(known) = ResetOpcode::try_from(opcode) else {
-        return refuse(reset, MockTransportError::InvalidReset(opcode));
-    };
-    settle(
-        CommandState::Status(command, Status::SUCCESS),
-        Some(known),
-        Effect::Nothing,
+    matches!(
+        command.cd_code,
+        CommandCode::EraseLBA | CommandCode::EraseForce
     )
 }
 
-fn handle_erase(
-    variety: Variety,
-    block_size: u16,
-    reset: Option<ResetOpcode>,
-    command: CommandBlock,
-    sectors: usize,
-) -> Outcome
-    ensures { OutcomeMeets result (erase_turn variety block_size reset command sectors) }
-{
-    let Ok(range) = flash_range(sectors, command.cd_address, command.cd_length) else {
-        return refuse(reset, MockTransportError::OutOfRange);
-    };
-    if splits(variety, block_size, command) {
-        return refuse(reset, MockTransportError::UnalignedErase);
-    }
-    settle(
-        CommandState::Status(command, Status::SUCCESS),
-        reset,
-        Effect::Fill(range),
-    )
-}
-
-fn handle_zero_length_command(
-    variety: Variety,
-    block_size: u16,
-    reset: Option<ResetOpcode>,
-    command: CommandBlock,
-    sectors: usize,
-) -> Outcome
-    ensures { OutcomeMeets result (zero_length_turn variety block_size reset command sectors) }
-{
-    if is_erase(command) {
-        return handle_erase(variety, block_size, reset, command, sectors);
-    }
-    if has_code(command, CommandCode::DeviceReset) {
-        return handle_reset(reset, command);
-    }
-    if switches(variety, command) {
-        let status = switched(command.cd_opcode);
-        return settle(
-            CommandState::Status(command, status),
-            reset,
+impl Row {
+    fn handle_reset(self, command: CommandBlock) -> Outcome
+        ensures { OutcomeMeets result (reset_turn self.reset command) }
+    {
+        let opcode = command.cd_opcode;
+        let Ok(known) = ResetOpcode::try_from(opcode) else {
+            return self.refuse(MockTransportError::InvalidReset(opcode));
+        };
+        let row = Row {
+            reset: Some(known),
+            ..self
+        };
+        row.settle(
+            CommandState::Status(command, Status::SUCCESS),
             Effect::Nothing,
-        );
+        )
     }
-    refuse(reset, MockTransportError::UnknownCommand(command.cd_code))
-}
 
-// 56: bytes that are no command. The signature's bytes stand beside the refusal.
-fn refuse_block(
-    reset: Option<ResetOpcode>,
-    error: CommandBlockParseError,
-    signature: [u8; 4],
-) -> Outcome
-    ensures { result ≡ block_refused reset error signature }
-{
-    Outcome {
-        answer: MockAnswer {
-            result: Err(MockTransportError::CommandBlockError(error)),
-            signature,
-        },
-        session: Session {
-            current_command: CommandState::None,
-            last_reset: reset,
-        },
-        effect: Effect::Nothing,
+    fn handle_erase(self, block_size: u16, command: CommandBlock) -> Outcome
+        ensures { OutcomeMeets result (erase_turn self.variety block_size self.reset command self.sectors) }
+    {
+        let Ok(range) = flash_range(self.sectors, command.cd_address, command.cd_length) else {
+            return self.refuse(MockTransportError::OutOfRange);
+        };
+        if splits(self.variety, block_size, command) {
+            return self.refuse(MockTransportError::UnalignedErase);
+        }
+        self.settle(
+            CommandState::Status(command, Status::SUCCESS),
+            Effect::Fill(range),
+        )
     }
-}
 
-fn start_command(
-    variety: Variety,
-    block_size: u16,
-    reset: Option<ResetOpcode>,
-    sectors: usize,
-    data: &[u8],
-) -> Outcome
-    ensures { OutcomeMeets result (start_turn variety block_size (read_command «data».now) reset sectors) }
-{
-    let Parse { answer, signature } = CommandBlock::from_bytes(data);
-    let command = match answer {
-        Ok(command) => command,
-        Err(error) => return refuse_block(reset, error, signature),
-    };
-    if command.transfer_length == 0 {
-        return handle_zero_length_command(variety, block_size, reset, command, sectors);
+    fn handle_zero_length_command(self, block_size: u16, command: CommandBlock) -> Outcome
+        ensures { OutcomeMeets result (zero_length_turn self.variety block_size self.reset command self.sectors) }
+    {
+        if is_erase(command) {
+            return self.handle_erase(block_size, command);
+        }
+        if has_code(command, CommandCode::DeviceReset) {
+            return self.handle_reset(command);
+        }
+        if switches(self.variety, command) {
+            let status = switched(command.cd_opcode);
+            return self.settle(CommandState::Status(command, status), Effect::Nothing);
+        }
+        self.refuse(MockTransportError::UnknownCommand(command.cd_code))
     }
-    settle(CommandState::IO(command), reset, Effect::Nothing)
-}
 
-fn write_io(
-    variety: Variety,
-    reset: Option<ResetOpcode>,
-    command: CommandBlock,
-    sectors: usize,
-    actual: usize,
-) -> Outcome
-    ensures { OutcomeMeets result (write_io_turn variety reset command sectors actual) }
-{
-    let Direction::Out = command.flags else {
-        return refuse(reset, MockTransportError::UnexpectedWrite);
-    };
-    if !has_code(command, CommandCode::WriteLBA) {
-        return refuse(reset, MockTransportError::UnexpectedWrite);
+    // 56: bytes that are no command. The signature's bytes stand beside the refusal.
+    fn refuse_block(self, error: CommandBlockParseError, signature: [u8; 4]) -> Outcome
+        ensures { result ≡ block_refused self.reset error signature }
+    {
+        Outcome {
+            answer: MockAnswer {
+                result: Err(MockTransportError::CommandBlockError(error)),
+                signature,
+            },
+            session: Session {
+                current_command: CommandState::None,
+                last_reset: self.reset,
+            },
+            effect: Effect::Nothing,
+        }
     }
-    sector_io(variety, reset, command, Direction::Out, sectors, actual)
+
+    fn start_command(self, block_size: u16, data: &[u8]) -> Outcome
+        ensures { OutcomeMeets result (start_turn self.variety block_size (read_command «data».now) self.reset self.sectors) }
+    {
+        let Parse { answer, signature } = CommandBlock::from_bytes(data);
+        let command = match answer {
+            Ok(command) => command,
+            Err(error) => return self.refuse_block(error, signature),
+        };
+        if command.transfer_length == 0 {
+            return self.handle_zero_length_command(block_size, command);
+        }
+        self.settle(CommandState::IO(command), Effect::Nothing)
+    }
+
+    fn write_io(self, command: CommandBlock, actual: usize) -> Outcome
+        ensures { OutcomeMeets result (write_io_turn self.variety self.reset command self.sectors actual) }
+    {
+        let Direction::Out = command.flags else {
+            return self.refuse(MockTransportError::UnexpectedWrite);
+        };
+        if !has_code(command, CommandCode::WriteLBA) {
+            return self.refuse(MockTransportError::UnexpectedWrite);
+        }
+        self.sector_io(command, Direction::Out, actual)
+    }
 }
 
 pub fn write_outcome(
@@ -153,10 +128,15 @@ pub fn write_outcome(
 ) -> Outcome
     ensures { OutcomeMeets result (write_turn variety block_size session sectors «data».now) }
 {
-    let reset = session.last_reset;
+    let row = Row {
+        variety,
+        reset: session.last_reset,
+        sectors,
+    };
+    // A match: each of the three states holds values of its own, and closures over them would be no plainer.
     match session.current_command {
-        CommandState::None => start_command(variety, block_size, reset, sectors, data),
-        CommandState::IO(command) => write_io(variety, reset, command, sectors, data.len()),
-        CommandState::Status(_, _) => refuse(reset, MockTransportError::UnexpectedWrite),
+        CommandState::None => row.start_command(block_size, data),
+        CommandState::IO(command) => row.write_io(command, data.len()),
+        CommandState::Status(_, _) => row.refuse(MockTransportError::UnexpectedWrite),
     }
 }

@@ -1,4 +1,4 @@
--- One operation: `Lists` has laws on copied bytes, `Cases` one law for each way that a step or a giving can go, `Numbered` the number of a finish,
+-- One operation: `Lists` has a law on bytes put behind others, `Cases` one law for each way that a step or a giving can go,
 -- `Laws` what holds of every record, `Rounds` how many steps an operation takes, `Made` what holds of every record that calls from a start can make,
 -- `Unique` that answers that a contract allows are equal, `Short` what a status of 4 bytes is read as, `ShortStep` when a step tells a transfer whole
 -- or short, `Wrong` programs that the contracts rule out.
@@ -6,7 +6,6 @@
 -- programs that the contracts rule out.
 pub mod Lists
 pub mod Cases
-pub mod Numbered
 pub mod Laws
 pub mod Rounds
 pub mod Made

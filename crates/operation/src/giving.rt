@@ -97,6 +97,7 @@ impl UsbOperation {
     pub fn give(self, bytes: &[u8], data: &mut [u8]) -> UsbGiven
         ensures { GiveMeets result «data».old «data».new (usb_give self bytes.now (length «data».old)) }
     {
+        // Stays a `match`, as that of `step`.
         match self.asked {
             Asked::Nothing => self.gives(Err(GivingError::NotAsked)),
             Asked::Inband => self.give_inband(bytes),

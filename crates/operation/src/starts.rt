@@ -84,6 +84,7 @@ fn sectors_or_0(answer: Result<SectorCount, SectorError>) -> u16
 }
 
 // Reads into data of `size` bytes, which is lent at each step and giving.
+// `read_lba` and `write_lba` stay two: the Rust's names, each with a kind and a command of its own, and what they share is `sectors_or_0`.
 pub fn read_lba(tag: u32, start_sector: u32, size: usize) -> UsbStart
     ensures { StartMeets result Kind.Read (read_lba_command tag start_sector) size }
 {

@@ -28,6 +28,7 @@ pub enum IOBytes {
 }
 
 // What the last step asked to be read and nothing was given for yet.
+// Stays an enum of four: `Nothing` is a row of each table over it (`nothing_asked`, `asks_for`, `owed`, `received`) like the other three.
 #[derive(Clone, Copy)]
 pub enum Asked {
     Nothing,
@@ -267,6 +268,7 @@ impl UsbOperation {
     pub fn step(self, data: &[u8], out: &mut [u8]) -> UsbStepped
         ensures { StepMeets result out.old out.new (usb_step self (length «data».now) (length out.old)) }
     {
+        // Stays a `match`: four places, each with arguments of its own; closures would be made for one call each.
         match self.next {
             Operation::CommandBlock => self.command_step(out),
             Operation::IO => self.io_step(data.len()),

@@ -1,7 +1,6 @@
--- `First` is about the first bytes of a copied array, `Transfers` about when a transfer is whole or short, `Cases` has one law for each way that a finish
--- can go, `Ends` what holds of every finish, `Unique` that answers that a contract allows are equal, `SectorFinish` what a finish tells of sectors and
--- what it told of them before, `Wrong` programs that the contracts rule out.
-pub mod First
+-- `Transfers` is about when a transfer is whole or short, `Cases` has one law for each way that a finish can go, `Ends` what holds of every finish,
+-- `Unique` that answers that a contract allows are equal, `SectorFinish` what a finish tells of sectors and what it told of them before, `Wrong`
+-- programs that the contracts rule out.
 pub mod Transfers
 pub mod Cases
 pub mod Ends

@@ -46,6 +46,7 @@ pub enum SectorTransfer {
 }
 
 // A reply. Where its wrapper holds an array, it stands beside.
+// Stays an enum of the Rust's kinds of reply: `Nothing` is the reply of an operation that asks for none.
 #[derive(Clone, Copy, Debug, PartialEq, Eq)]
 pub enum UsbReply {
     ChipInfo,
@@ -192,6 +193,7 @@ fn sectors_of(length: u32, residue: u32) -> Finished
 fn reply_of(kind: Kind, length: u32, residue: u32, inband: [u8; 16]) -> Finished
     ensures { FinishMeets result (reply_of kind length residue inband) }
 {
+    // Stays a `match`: eight kinds, of which some look at the residue and some at the bytes.
     match kind {
         Kind::ChipInfo => chip_info_of(inband),
         Kind::FlashId => flash_id_of(inband),

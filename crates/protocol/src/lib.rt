@@ -194,6 +194,7 @@ impl CommandBlock {
         )
     }
 
+    // Stays beside `write_lba`: the Rust's two names; what they share is `sector_command`.
     pub fn read_lba(tag: u32, first: u32, sectors: u16) -> CommandBlock
         ensures { result ≡ read_lba_command tag first sectors }
     {
@@ -315,6 +316,7 @@ impl CommandBlock {
     }
 
     // Fills the first 24 bytes and answers 31: the rest is the caller's.
+    // Stays beside that of the status block: the two have arrays of two sizes, and their contracts tell two definitions.
     #[tactic(auto, unfolding(crate::specs::CommandBytes::write_command, protocol_bytes::specs::Writing::writing, protocol_bytes::specs::Writing::written_told, promise::specs::Rules::or_refuse))]
     pub fn to_bytes(self, out: &mut [u8]) -> Result<usize, OutputTooShort>
         ensures write_meets { WriteMeets result out.old out.new (write_command self (length out.old)) }

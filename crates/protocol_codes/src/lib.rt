@@ -234,6 +234,7 @@ impl TryFrom<u8> for ResetOpcode {
 }
 
 // A storage medium by its place among the boot types: every byte is one, by name or by its number.
+// `Unknown` is no refusal: every byte is an index.
 #[derive(Clone, Copy, Debug, PartialEq, Eq)]
 pub enum StorageIndex {
     Nand,

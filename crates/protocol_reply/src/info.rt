@@ -5,6 +5,7 @@ ghost use Rattle.protocol_reply.specs.Info.{info_sectors, flash_size, block_size
 use protocol_bytes::SECTOR_SIZE;
 use protocol_bytes::order::{u16_from_le_bytes, u32_from_le_bytes};
 
+// Stays a type of its own, as `FlashId`, `FlashInfo` and `Capability` do: each kind keeps the Rust's wrapper, so that none passes for another.
 #[derive(Clone, Copy)]
 pub struct ChipInfo(pub [u8; 16]);
 

@@ -48,6 +48,7 @@ fn say_short<E: Write>(errors: &mut E, number: u64) {
     );
 }
 
+// Stays beside that of convert: each program says its own text.
 fn say_unread<E: Write>(errors: &mut E, rechecked: u64) {
     complain(
         errors,

@@ -69,9 +69,7 @@ impl Answer {
 
     // A step that is the finish: the values of what it came to stand behind a 3.
     pub fn as_finish(mut self) -> Answer {
-        if self.told.number == 0 {
-            self.told = self.told.behind(0, 3);
-        }
+        self.told = self.told.behind(0, 3);
         self
     }
 

@@ -1,5 +1,5 @@
 // Answers on their way out.
-use replay_lines::buffer::{behind_mut, copy, first_mut};
+use replay_lines::buffer::{behind_mut, copy, first, first_mut};
 use std::io::{Result, Write};
 
 // The writer, and what is to be written, in the first `len` bytes of a lent buffer.
@@ -39,9 +39,22 @@ impl<W: Write> Write for Output<'_, W> {
     }
 }
 
+fn digit(nibble: u8) -> u8 {
+    match nibble {
+        0..=9 => b'0' + nibble,
+        10..=15 => b'a' + (nibble - 10),
+        _ => b'?',
+    }
+}
+
+// Sixty-four bytes at a time, since a write for each takes twice the time.
 pub fn hex<W: Write>(out: &mut W, bytes: &[u8]) -> Result<()> {
-    for byte in bytes {
-        write!(out, "{byte:02x}")?;
+    for part in bytes.chunks(64) {
+        let mut text = [0u8; 128];
+        for (pair, byte) in text.chunks_exact_mut(2).zip(part) {
+            pair.copy_from_slice(&[digit(byte >> 4), digit(byte & 15)]);
+        }
+        out.write_all(first(part.len().wrapping_mul(2), &text))?;
     }
     Ok(())
 }

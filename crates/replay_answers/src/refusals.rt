@@ -2,6 +2,7 @@
 use crate::told::Told;
 use protocol::CommandBlockParseError;
 use protocol_status::failure::UsbOperationError;
+use rule_number::RuleNumber;
 
 pub fn command_error(error: CommandBlockParseError, signature: [u8; 4]) -> Told {
     let number = error.number();

@@ -1,13 +1,13 @@
 // Storage indices and reset opcodes, read and told.
 use crate::told::Told;
-use protocol_codes::{ResetOpcode, ResetRead, StorageIndex};
+use protocol_codes::{ResetOpcode, StorageIndex};
 use replay_lines::tokens::Tokens;
 
 // A storage index is two numbers.
 pub fn storage(index: StorageIndex) -> Told {
     match index {
         StorageIndex::Unknown(n) => Told::of(0, &[0, u64::from(n)]),
-        _ => Told::of(0, &[1, u64::from(index.number())]),
+        _ => Told::of(0, &[1, u64::from(u8::from(index))]),
     }
 }
 
@@ -18,13 +18,10 @@ pub fn read_storage(tokens: &mut Tokens) -> Option<StorageIndex> {
     match named {
         0 => Some(StorageIndex::Unknown(n)),
         _ if n > 12 => None,
-        _ => Some(StorageIndex::from_number(n)),
+        _ => Some(StorageIndex::from(n)),
     }
 }
 
 pub fn read_reset(tokens: &mut Tokens) -> Option<ResetOpcode> {
-    match ResetOpcode::from_number(tokens.u8()?) {
-        ResetRead::Known(opcode) => Some(opcode),
-        ResetRead::Unknown(_) => None,
-    }
+    ResetOpcode::try_from(tokens.u8()?).ok()
 }

@@ -1,12 +1,13 @@
 // "Blocks": command and status blocks, read and written.
-use protocol::{CommandAnswer, CommandBlock, CommandParse};
-use protocol_bytes::output::Written;
-use protocol_codes::{Status, StatusRead};
+use protocol::CommandBlock;
+use protocol_bytes::signature::Parse;
+use protocol_codes::Status;
 use protocol_status::failure::UsbOperationError;
-use protocol_status::report::{CommandStatus, CommandStatusParseError, StatusAnswer, StatusParse};
+use protocol_status::report::{CommandStatus, CommandStatusParseError};
 use replay_answers::refusals::{command_error, operation_error};
 use replay_answers::told::Told;
 use replay_lines::tokens::Tokens;
+use rule_number::{OutputTooShort, RuleNumber};
 
 fn fields(block: CommandBlock) -> Told {
     Told::of(
@@ -14,10 +15,10 @@ fn fields(block: CommandBlock) -> Told {
         &[
             u64::from(block.tag()),
             u64::from(block.transfer_length()),
-            u64::from(block.direction().number()),
+            u64::from(u8::from(block.direction())),
             u64::from(block.lun),
             u64::from(block.cdb_length),
-            u64::from(block.cd_code().number()),
+            u64::from(u8::from(block.cd_code())),
             u64::from(block.cd_opcode()),
             u64::from(block.cd_address()),
             u64::from(block.cd_length()),
@@ -27,10 +28,10 @@ fn fields(block: CommandBlock) -> Told {
 
 // `crd`
 pub(crate) fn read_command(bytes: &[u8]) -> Told {
-    let CommandParse { answer, signature } = CommandBlock::from_bytes(bytes);
+    let Parse { answer, signature } = CommandBlock::from_bytes(bytes);
     match answer {
-        CommandAnswer::Block(block) => fields(block),
-        CommandAnswer::Refused(error) => command_error(error, signature),
+        Ok(block) => fields(block),
+        Err(error) => command_error(error, signature),
     }
 }
 
@@ -54,35 +55,33 @@ fn report(status: CommandStatus) -> Told {
         &[
             u64::from(tag),
             u64::from(residue),
-            u64::from(status.number()),
+            u64::from(u8::from(status)),
         ],
     )
 }
 
 // `srd`
 pub(crate) fn read_status(bytes: &[u8]) -> Told {
-    let StatusParse { answer, signature } = CommandStatus::from_bytes(bytes);
+    let Parse { answer, signature } = CommandStatus::from_bytes(bytes);
     match answer {
-        StatusAnswer::Block(status) => report(status),
-        StatusAnswer::Refused(error) => status_error(error, signature),
+        Ok(status) => report(status),
+        Err(error) => status_error(error, signature),
     }
 }
 
 // `smp`
 pub(crate) fn map_status(bytes: &[u8]) -> Told {
-    let StatusParse { answer, signature } = CommandStatus::from_bytes(bytes);
+    let Parse { answer, signature } = CommandStatus::from_bytes(bytes);
     match answer {
-        StatusAnswer::Block(_) => Told::of(0, &[]),
-        StatusAnswer::Refused(error) => {
-            operation_error(UsbOperationError::from_status(error), signature)
-        }
+        Ok(_) => Told::of(0, &[]),
+        Err(error) => { operation_error(UsbOperationError::from(error), signature) }
     }
 }
 
-fn written(answer: Written) -> Told {
+fn written(answer: Result<usize, OutputTooShort>) -> Told {
     match answer {
-        Written::Bytes(n) => Told::of(0, &[n as u64]),
-        Written::TooShort => Told::of(answer.number(), &[]),
+        Ok(n) => Told::of(0, &[n as u64]),
+        Err(error) => Told::of(error.number(), &[]),
     }
 }
 
@@ -93,10 +92,10 @@ pub(crate) fn write_command(block: CommandBlock, room: &mut [u8]) -> Told {
 
 // `cnv`
 pub(crate) fn convert_command(bytes: &[u8], room: &mut [u8]) -> Told {
-    let CommandParse { answer, signature } = CommandBlock::from_bytes(bytes);
+    let Parse { answer, signature } = CommandBlock::from_bytes(bytes);
     match answer {
-        CommandAnswer::Block(block) => written(block.to_bytes(room)),
-        CommandAnswer::Refused(error) => command_error(error, signature),
+        Ok(block) => written(block.to_bytes(room)),
+        Err(error) => command_error(error, signature),
     }
 }
 
@@ -104,9 +103,7 @@ pub(crate) fn convert_command(bytes: &[u8], room: &mut [u8]) -> Told {
 pub(crate) fn status(tokens: &mut Tokens) -> Option<CommandStatus> {
     let tag = tokens.u32()?;
     let residue = tokens.u32()?;
-    let StatusRead::Known(status) = Status::from_number(tokens.u8()?) else {
-        return None;
-    };
+    let status = Status::try_from(tokens.u8()?).ok()?;
     Some(CommandStatus {
         tag,
         residue,

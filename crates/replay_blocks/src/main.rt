@@ -25,7 +25,7 @@ fn on_number(call: Call, n: u8) -> Option<Told> {
         Call::Code => Some(numbers::code(n)),
         Call::Status => Some(numbers::status(n)),
         Call::Reset => Some(numbers::reset(n)),
-        Call::Index => Some(storage(StorageIndex::from_number(n))),
+        Call::Index => Some(storage(StorageIndex::from(n))),
         _ => None,
     }
 }

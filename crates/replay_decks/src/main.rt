@@ -13,8 +13,8 @@ use replay_lines::buffer::first;
 use replay_lines::input::Input;
 use replay_lines::names::Call;
 use replay_lines::tokens::Tokens;
-use std::io::{Result, Write};
 use rule_number::RuleNumber;
+use std::io::{Result, Write};
 
 // The bench, whether its deck takes another block, and the buffers that its flash and its store stand in.
 #[derive(Drop)]

@@ -1,6 +1,6 @@
 // The answers: a block's line, or the bench's number and its device.
 use deck::bench::DeckStep;
-use deck::verdict::{RefusalNumber};
+use deck::verdict::RefusalNumber;
 use mock::device::MockState;
 use operation_finish::{Beside, SectorTransfer, UsbReply};
 use replay_answers::out::hex;

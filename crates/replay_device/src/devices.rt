@@ -1,9 +1,9 @@
 // "The device": raw calls on the current device.
 use mock::config::MockDeviceConfig;
 use mock::device::{MockState, MockStep};
-use mock_areas::AreaFound;
-use mock_base::error::{MockAnswer, MockResult, MockTransportError};
-use mock_table::session::LastReset;
+use mock_areas::Stretch;
+use mock_base::error::{MockAnswer, MockTransportError};
+use protocol_codes::ResetOpcode;
 use replay_answers::answer::{Answer, Tail};
 use replay_answers::refusals::command_error;
 use replay_answers::told::Told;
@@ -11,6 +11,7 @@ use replay_lines::buffer::{behind, copy, first, first_mut};
 use replay_lines::data::LEN;
 use replay_lines::names::Call;
 use replay_lines::tokens::Tokens;
+use rule_number::RuleNumber;
 
 // A device's record, and the length of its flash.
 #[derive(Clone, Copy)]
@@ -46,7 +47,7 @@ pub fn refusal(error: MockTransportError, signature: [u8; 4]) -> Told {
             ],
         ),
         MockTransportError::InvalidReset(opcode) => Told::of(number, &[u64::from(opcode)]),
-        MockTransportError::UnknownCommand(code) => Told::of(number, &[u64::from(code.number())]),
+        MockTransportError::UnknownCommand(code) => Told::of(number, &[u64::from(u8::from(code))]),
         // the inner number and its values
         MockTransportError::CommandBlockError(inner) => {
             let told = command_error(inner, signature);
@@ -59,8 +60,8 @@ pub fn refusal(error: MockTransportError, signature: [u8; 4]) -> Told {
 
 fn told_of(answer: MockAnswer) -> Told {
     match answer.result {
-        MockResult::Done => Told::of(0, &[]),
-        MockResult::Refused(error) => refusal(error, answer.signature),
+        Ok(()) => Told::of(0, &[]),
+        Err(error) => refusal(error, answer.signature),
     }
 }
 
@@ -80,24 +81,23 @@ fn configuration(tokens: &mut Tokens) -> Option<MockDeviceConfig> {
     })
 }
 
-pub fn last_reset(last: LastReset) -> Told {
+pub fn last_reset(last: Option<ResetOpcode>) -> Told {
     match last {
-        LastReset::None => Told::of(0, &[0]),
-        LastReset::Some(opcode) => Told::of(0, &[1, u64::from(opcode.number())]),
+        None => Told::of(0, &[0]),
+        Some(opcode) => Told::of(0, &[1, u64::from(u8::from(opcode))]),
     }
 }
 
 impl Devices<'_> {
     // A block size of 0 is told, and the device is there all the same.
     fn made(&mut self, made: MockStep, flash: usize) -> Answer {
-        let told = told_of(made.answer);
-        if told.number == 0 || told.number == 62 {
+        if let Ok(()) | Err(MockTransportError::ZeroBlockSize) = made.answer.result {
             self.current = Some(Device {
                 state: made.state,
                 flash,
             });
         }
-        Answer::from(told)
+        Answer::from(told_of(made.answer))
     }
 
     // `dvd`
@@ -189,8 +189,8 @@ impl Devices<'_> {
         let number = tokens.u16()?;
         tokens.end()?;
         match state.maskrom_area(number) {
-            AreaFound::NotHeld => Some(Answer::from(Told::of(0, &[0]))),
-            AreaFound::Held { start, length } => {
+            None => Some(Answer::from(Told::of(0, &[0]))),
+            Some(Stretch { start, length }) => {
                 copy(first(length, behind(start, self.store)), room);
                 Some(Answer::with_tail(Told::of(0, &[1]), Tail::Room(length)))
             }

@@ -1,8 +1,9 @@
 // What a record, a step or a walk came to, as numbers.
-use loader_records::answer::{RkBootAnswer, RkBootError};
-use loader_walk::walk::{EntryPlace, WalkAnswer};
-use loader_walk::whole::{EntryCounts, ExamineAnswer};
+use loader_records::answer::RkBootError;
+use loader_walk::walk::EntryPlace;
+use loader_walk::whole::EntryCounts;
 use replay_answers::told::Told;
+use rule_number::RuleNumber;
 
 // Behind the number stand the bytes that there are, the tag, or the list and the entry.
 fn refused(error: RkBootError, tag: [u8; 4]) -> Told {
@@ -18,10 +19,10 @@ fn refused(error: RkBootError, tag: [u8; 4]) -> Told {
     }
 }
 
-pub fn read(answer: RkBootAnswer, tag: [u8; 4]) -> Told {
+pub fn read(answer: Result<(), RkBootError>, tag: [u8; 4]) -> Told {
     match answer {
-        RkBootAnswer::Read => Told::of(0, &[]),
-        RkBootAnswer::Refused(error) => refused(error, tag),
+        Ok(()) => Told::of(0, &[]),
+        Err(error) => refused(error, tag),
     }
 }
 
@@ -41,10 +42,10 @@ fn counts(counts: EntryCounts) -> Told {
     )
 }
 
-pub fn examined(answer: ExamineAnswer, tag: [u8; 4]) -> Told {
+pub fn examined(answer: Result<EntryCounts, RkBootError>, tag: [u8; 4]) -> Told {
     match answer {
-        ExamineAnswer::Whole(found) => counts(found),
-        ExamineAnswer::Refused(error) => refused(error, tag),
+        Ok(found) => counts(found),
+        Err(error) => refused(error, tag),
     }
 }
 
@@ -68,10 +69,10 @@ fn place(found: EntryPlace) -> Told {
 }
 
 // A step: `0 1` and where the entry and its data stand, `0 0` at the end, or the refusal.
-pub fn came(answer: WalkAnswer, tag: [u8; 4]) -> Told {
+pub fn came(answer: Result<Option<EntryPlace>, RkBootError>, tag: [u8; 4]) -> Told {
     match answer {
-        WalkAnswer::Entry(found) => place(found),
-        WalkAnswer::End => Told::of(0, &[0]),
-        WalkAnswer::Refused(error) => refused(error, tag),
+        Ok(Some(found)) => place(found),
+        Ok(None) => Told::of(0, &[0]),
+        Err(error) => refused(error, tag),
     }
 }

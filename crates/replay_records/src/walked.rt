@@ -2,7 +2,7 @@
 use crate::shown::walk;
 use crate::told::came;
 use loader_records::entry::RkBootEntry;
-use loader_walk::walk::{EntryPlace, Walk, WalkAnswer, WalkStep};
+use loader_walk::walk::{EntryPlace, Walk, WalkStep};
 use std::io::{Result, Write};
 
 // three lists of 255 entries, and the step behind them
@@ -67,7 +67,7 @@ impl Walked {
                 walk,
                 unknown_tag: _,
             } = walked.step;
-            let WalkAnswer::Entry(found) = answer else {
+            let Ok(Some(found)) = answer else {
                 break;
             };
             walked.found = walked.found.wrapping_add(1);

@@ -1,11 +1,12 @@
 // "Replies": each read by its own wrapper, from exactly as many bytes as it has, and sector data by its length.
 use protocol_reply::flags::Capability;
 use protocol_reply::info::{ChipInfo, FlashId, FlashInfo};
-use protocol_reply::media::{StorageAnswer, storage_index};
-use protocol_reply::size::{SectorAnswer, sector_count};
+use protocol_reply::media::storage_index;
+use protocol_reply::size::sector_count;
 use replay_answers::answer::Answer;
 use replay_answers::told::Told;
 use replay_answers::values::storage;
+use rule_number::RuleNumber;
 
 pub fn chip_info(bytes: &[u8]) -> Option<Answer> {
     let info = ChipInfo::from_bytes(*bytes.as_array::<16>()?);
@@ -47,17 +48,15 @@ pub fn capability(bytes: &[u8]) -> Option<Answer> {
 }
 
 pub fn media(bytes: &[u8]) -> Option<Told> {
-    let answer = storage_index(*bytes.as_array::<4>()?);
-    match answer {
-        StorageAnswer::Index(index) => Some(storage(index)),
-        StorageAnswer::ReplyParseFailure => Some(Told::of(answer.number(), &[])),
+    match storage_index(*bytes.as_array::<4>()?) {
+        Ok(index) => Some(storage(index)),
+        Err(error) => Some(Told::of(error.number(), &[])),
     }
 }
 
 pub fn sectors(length: usize) -> Told {
-    let answer = sector_count(length);
-    match answer {
-        SectorAnswer::Count(count) => Told::of(0, &[u64::from(count.0)]),
-        _ => Told::of(answer.number(), &[]),
+    match sector_count(length) {
+        Ok(count) => Told::of(0, &[u64::from(count.0)]),
+        Err(error) => Told::of(error.number(), &[]),
     }
 }

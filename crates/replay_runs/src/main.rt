@@ -9,10 +9,20 @@ use replay_lines::buffer::first;
 use replay_lines::input::Input;
 use replay_lines::names::Call;
 use replay_lines::tokens::Tokens;
-use replay_steps::operations::{Current, Operations};
+use replay_steps::held::Held;
+use replay_steps::operations::Operations;
 use replay_steps::uploads::Uploads;
 use replay_world::world::World;
 use std::io::{Result, Write};
+
+// The lengths of the buffers, which differential/larger makes larger: of the room, the caller's data and the flash,
+const ROOM: usize = 65536;
+
+// of the store,
+const STORE: usize = 65536;
+
+// and of an image and a line's DATA.
+const IMAGE: usize = 100000;
 
 // Whether the answer of a call has the caller's data, where there is an operation.
 fn has_own(call: Call) -> bool {
@@ -32,7 +42,7 @@ fn has_device(call: Call) -> bool {
 // The sections of the things that stay.
 fn print_world<W: Write>(out: &mut W, call: Call, world: &World) -> Result<()> {
     if has_own(call)
-        && let Some(Current { record: _, length }) = world.operations.current
+        && let Some(Held { record: _, length }) = world.operations.current
     {
         section(out, first(length, world.operations.own))?;
     }
@@ -61,8 +71,8 @@ fn answer_line<W: Write>(
     out: &mut W,
     line: &[u8],
     world: &mut World,
-    data: &mut [u8],
-    room: &mut [u8],
+    data: &mut [u8; IMAGE],
+    room: &mut [u8; ROOM],
 ) -> Result<()> {
     let mut tokens = Tokens::new(line);
     if let Some(call) = tokens.call()
@@ -75,31 +85,38 @@ fn answer_line<W: Write>(
     out.write_all(b"\n")
 }
 
+// Nothing yet. The buffers become slices here and not in `main`, which knows all of their bytes.
+fn new_world<'a>(
+    own: &'a mut [u8; ROOM],
+    image: &'a mut [u8; IMAGE],
+    flash: &'a mut [u8; ROOM],
+    store: &'a mut [u8; STORE],
+) -> World<'a> {
+    World {
+        operations: Operations { current: None, own },
+        uploads: Uploads {
+            current: None,
+            image,
+        },
+        devices: Devices {
+            current: None,
+            flash,
+            store,
+        },
+    }
+}
+
 fn main(rt: HostRuntime) -> Result<()> {
     let mut block = [0u8; 65536];
     let mut line = [0u8; 4096];
     let mut buffer = [0u8; 65536];
-    let mut data = [0u8; 100000];
-    let mut room = [0u8; 65536];
-    let mut image = [0u8; 100000];
-    let mut own = [0u8; 65536];
-    let mut flash = [0u8; 65536];
-    let mut store = [0u8; 65536];
-    let mut world = World {
-        operations: Operations {
-            current: None,
-            own: &mut own,
-        },
-        uploads: Uploads {
-            current: None,
-            image: &mut image,
-        },
-        devices: Devices {
-            current: None,
-            flash: &mut flash,
-            store: &mut store,
-        },
-    };
+    let mut data = [0u8; IMAGE];
+    let mut room = [0u8; ROOM];
+    let mut image = [0u8; IMAGE];
+    let mut own = [0u8; ROOM];
+    let mut flash = [0u8; ROOM];
+    let mut store = [0u8; STORE];
+    let mut world = new_world(&mut own, &mut image, &mut flash, &mut store);
     let mut input = Input::new(rt.stdin(), &mut block);
     let mut out = Output::new(rt.stdout(), &mut buffer);
     // a proved loop has to end, and nothing says that the input does: no run uses up so many turns

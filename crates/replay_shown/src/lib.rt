@@ -5,14 +5,14 @@
 #![tactic(auto)]
 
 use mock::device::MockState;
-use mock_areas::{AreaFound, Areas};
-use mock_table::session::LastReset;
+use mock_areas::{Areas, Stretch};
+use protocol_codes::ResetOpcode;
 use replay_answers::out::{bytes, section};
 use replay_lines::buffer::{behind, first};
 use std::io::{Result, Write};
 
 fn area<W: Write>(out: &mut W, areas: Areas, number: u16, store: &[u8]) -> Result<()> {
-    let AreaFound::Held { start, length } = areas.find(number, store.len()) else {
+    let Some(Stretch { start, length }) = areas.find(number, store.len()) else {
         return Ok(());
     };
     write!(out, " {number} ")?;
@@ -22,20 +22,22 @@ fn area<W: Write>(out: &mut W, areas: Areas, number: u16, store: &[u8]) -> Resul
 // How many areas are held, and these in ascending order.
 fn areas<W: Write>(out: &mut W, areas: Areas, store: &[u8]) -> Result<()> {
     let mut slots = areas.slots;
-    slots.sort_unstable_by_key(|slot| slot.number);
-    let held = slots.iter().filter(|slot| slot.held).count();
+    slots.sort_unstable_by_key(|slot| slot.map(|area| area.number));
+    let held = slots.iter().filter(|slot| slot.is_some()).count();
     write!(out, " | {held}")?;
-    for slot in slots.iter().filter(|slot| slot.held) {
-        area(out, areas, slot.number, store)?;
+    for slot in slots {
+        if let Some(held) = slot {
+            area(out, areas, held.number, store)?;
+        }
     }
     Ok(())
 }
 
-fn reset<W: Write>(out: &mut W, last: LastReset) -> Result<()> {
+fn reset<W: Write>(out: &mut W, last: Option<ResetOpcode>) -> Result<()> {
     match last {
-        LastReset::None => out.write_all(b" | 0"),
-        LastReset::Some(opcode) => {
-            let number = opcode.number();
+        None => out.write_all(b" | 0"),
+        Some(opcode) => {
+            let number = u8::from(opcode);
             write!(out, " | 1 {number}")
         }
     }

@@ -4,5 +4,6 @@
 
 #![tactic(auto)]
 
+pub mod held;
 pub mod operations;
 pub mod uploads;

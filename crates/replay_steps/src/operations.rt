@@ -1,11 +1,11 @@
 // "Operations": the current operation, stepped by hand.
+use crate::held::Held;
 use operation::starts::{
     UsbStart, capability, chip_info, erase_force, erase_lba, flash_id, flash_info, read_lba,
     reset_device, storage, switch_storage, write_lba,
 };
-use operation::steps::{UsbOperation, UsbStep};
-use operation_finish::{Beside, FinishAnswer, SectorTransfer, UsbReply};
-use protocol_reply::size::SectorAnswer;
+use operation::steps::{StepError, UsbOperation, UsbStep};
+use operation_finish::{Beside, SectorTransfer, UsbReply};
 use replay_answers::answer::{Answer, Tail};
 use replay_answers::refusals::operation_error;
 use replay_answers::told::Told;
@@ -15,18 +15,12 @@ use replay_lines::buffer::{copy, first, first_mut};
 use replay_lines::data::LEN;
 use replay_lines::names::OperationName;
 use replay_lines::tokens::Tokens;
-
-// An operation's record, and the length of the caller's data.
-#[derive(Clone, Copy)]
-pub struct Current {
-    pub record: UsbOperation,
-    pub length: usize,
-}
+use rule_number::RuleNumber;
 
 // The current operation, where there is one, and the buffer that the caller's data stands in.
 #[derive(Drop)]
 pub struct Operations<'a> {
-    pub current: Option<Current>,
+    pub current: Option<Held<UsbOperation>>,
     pub own: &'a mut [u8],
 }
 
@@ -56,7 +50,8 @@ fn transfer_value(transfer: SectorTransfer) -> Told {
     }
 }
 
-fn reply_value(reply: UsbReply, beside: Beside) -> Answer {
+// What a finished operation tells: 0 with its value.
+pub fn reply_value(reply: UsbReply, beside: Beside) -> Answer {
     let none = Told::of(0, &[]);
     match reply {
         UsbReply::ChipInfo => Answer::with_small(none, &beside.chip_info.inner()),
@@ -69,14 +64,6 @@ fn reply_value(reply: UsbReply, beside: Beside) -> Answer {
     }
 }
 
-// What a finished operation tells: 0 with its value, or 10 to 15.
-pub fn finished(answer: FinishAnswer, beside: Beside) -> Answer {
-    match answer {
-        FinishAnswer::Replied(reply) => reply_value(reply, beside),
-        FinishAnswer::Failed(error) => Answer::from(operation_error(error, beside.signature)),
-    }
-}
-
 fn step_answer(step: UsbStep, beside: Beside) -> Answer {
     match step {
         UsbStep::WriteCommand => Answer::with_tail(Told::of(0, &[1]), Tail::Room(31)),
@@ -84,8 +71,14 @@ fn step_answer(step: UsbStep, beside: Beside) -> Answer {
         UsbStep::ReadInband(n) | UsbStep::ReadData(n) | UsbStep::ReadStatus(n) => {
             Answer::from(Told::of(0, &[2, n as u64]))
         }
-        UsbStep::Finished(answer) => finished(answer, beside).as_finish(),
-        _ => Answer::from(Told::of(step.number(), &[])),
+        UsbStep::Finished(reply) => reply_value(reply, beside).as_finish(),
+    }
+}
+
+fn step_refused(error: StepError, beside: Beside) -> Told {
+    match error {
+        StepError::Failed(error) => operation_error(error, beside.signature),
+        _ => Told::of(error.number(), &[]),
     }
 }
 
@@ -106,9 +99,9 @@ impl Operations<'_> {
         } else {
             write_lba(tag, sector, length)
         };
-        if let SectorAnswer::Count(_) = answer {
+        if answer.is_ok() {
             copy(first(length, data), self.own);
-            self.current = Some(Current {
+            self.current = Some(Held {
                 record: operation,
                 length,
             });
@@ -126,30 +119,34 @@ impl Operations<'_> {
         }
         let record = plain(name, tag, &mut tokens)?;
         tokens.end()?;
-        self.current = Some(Current { record, length: 0 });
+        self.current = Some(Held { record, length: 0 });
         Some(Answer::from(Told::of(0, &[])))
     }
 
     // `stp`
     pub fn step(&mut self, mut tokens: Tokens, room: &mut [u8]) -> Option<Answer> {
-        let Current { record, length } = self.current?;
+        let Held { record, length } = self.current?;
         let len = tokens.room(room)?;
         tokens.end()?;
         let done = record.step(first(length, self.own), first_mut(len, room));
-        self.current = Some(Current {
+        self.current = Some(Held {
             record: done.next,
             length,
         });
-        Some(step_answer(done.step, done.beside).with_room(len))
+        let answer = match done.step {
+            Ok(step) => step_answer(step, done.beside),
+            Err(error) => Answer::from(step_refused(error, done.beside)),
+        };
+        Some(answer.with_room(len))
     }
 
     // `giv`
     pub fn give(&mut self, mut tokens: Tokens, data: &mut [u8]) -> Option<Answer> {
-        let Current { record, length } = self.current?;
+        let Held { record, length } = self.current?;
         let len = tokens.data(LEN, data)?;
         tokens.end()?;
         let done = record.give(first(len, data), first_mut(length, self.own));
-        self.current = Some(Current {
+        self.current = Some(Held {
             record: done.next,
             length,
         });

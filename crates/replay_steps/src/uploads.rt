@@ -1,22 +1,17 @@
 // "Uploads": the current upload, stepped by hand.
-use maskrom::{Control, UploadStart, UploadStep, WholeStart, WholeUpload, write_area};
+use crate::held::Held;
+use maskrom::{Control, UploadError, UploadStep, WholeStart, WholeUpload, write_area};
 use replay_answers::answer::Answer;
 use replay_answers::told::Told;
 use replay_lines::buffer::{copy, first, first_mut};
 use replay_lines::data::IMAGE;
 use replay_lines::tokens::Tokens;
-
-// An upload's record, and the length of its image.
-#[derive(Clone, Copy)]
-pub struct Upload {
-    pub record: WholeUpload,
-    pub length: usize,
-}
+use rule_number::RuleNumber;
 
 // The current upload, where there is one, and the buffer that its image stands in.
 #[derive(Drop)]
 pub struct Uploads<'a> {
-    pub current: Option<Upload>,
+    pub current: Option<Held<WholeUpload>>,
     pub image: &'a mut [u8],
 }
 
@@ -41,11 +36,11 @@ fn control_told(control: Control) -> Told {
     )
 }
 
-fn step_told(step: UploadStep) -> Told {
+fn step_told(step: Result<UploadStep, UploadError>) -> Told {
     match step {
-        UploadStep::WriteControl(control) => control_told(control),
-        UploadStep::Finished => Told::of(0, &[3]),
-        _ => Told::of(step.number(), &[]),
+        Ok(UploadStep::WriteControl(control)) => control_told(control),
+        Ok(UploadStep::Finished) => Told::of(0, &[3]),
+        Err(error) => Told::of(error.number(), &[]),
     }
 }
 
@@ -59,8 +54,8 @@ impl Uploads<'_> {
         let image = first(length, data);
         copy(image, self.image);
         let WholeStart { start, upload } = write_area(area, image);
-        if let UploadStart::Started = start {
-            self.current = Some(Upload {
+        if start.is_ok() {
+            self.current = Some(Held {
                 record: upload,
                 length,
             });
@@ -70,11 +65,11 @@ impl Uploads<'_> {
 
     // `ust`
     pub fn step(&mut self, mut tokens: Tokens, room: &mut [u8]) -> Option<Answer> {
-        let Upload { record, length } = self.current?;
+        let Held { record, length } = self.current?;
         let len = tokens.room(room)?;
         tokens.end()?;
         let done = record.step(first(length, self.image), first_mut(len, room));
-        self.current = Some(Upload {
+        self.current = Some(Held {
             record: done.next,
             length,
         });

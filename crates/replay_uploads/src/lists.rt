@@ -1,7 +1,7 @@
 // Whole and part-wise lists of transfers.
 use crate::sizes::{Sizes, read_sizes};
 use maskrom::{
-    Control, MaskRomOperation, PartStep, UploadStart, UploadStep, WholeStart, WholeUpload,
+    Control, MaskRomOperation, PartStep, UploadError, UploadStep, WholeStart, WholeUpload,
     write_area,
 };
 use replay_answers::answer::{Answer, Tail};
@@ -9,6 +9,7 @@ use replay_answers::out::bytes;
 use replay_answers::told::Told;
 use replay_lines::buffer::{behind, first};
 use replay_lines::tokens::Tokens;
+use rule_number::RuleNumber;
 use std::io::{Result as Written, Write};
 
 // the most of an image whose list is asked for
@@ -45,32 +46,22 @@ impl List<'_> {
     }
 
     // A step's transfer, or that it was the finish. A refusal is its number.
-    fn add(&mut self, step: UploadStep, block: &[u8]) -> Result<bool, u8> {
+    fn add(&mut self, step: Result<UploadStep, UploadError>, block: &[u8]) -> Result<bool, u8> {
         match step {
-            UploadStep::WriteControl(control) => {
+            Ok(UploadStep::WriteControl(control)) => {
                 self.put(control, block);
                 Ok(true)
             }
-            UploadStep::Finished => Ok(false),
-            _ => Err(step.number()),
+            Ok(UploadStep::Finished) => Ok(false),
+            Err(error) => Err(error.number()),
         }
     }
 }
 
-// A whole upload on its way.
-#[derive(Clone, Copy)]
-struct Whole<'a> {
-    record: WholeUpload,
-    image: &'a [u8],
-}
-
-impl Whole<'_> {
-    fn step(&mut self, list: &mut List) -> Result<bool, u8> {
-        let mut out = [0u8; 4096];
-        let done = self.record.step(self.image, &mut out);
-        self.record = done.next;
-        list.add(done.step, &out)
-    }
+// What takes steps to a finish.
+trait Steps {
+    // Whether there was a transfer, which is added to the list, or the finish. A refusal is its number.
+    fn step(&mut self, list: &mut List) -> Result<bool, u8>;
 
     // The step after the finish must be the finish again: a transfer there is one too many.
     fn to_the_end(&mut self, list: &mut List) -> Result<(), u8> {
@@ -81,6 +72,22 @@ impl Whole<'_> {
         }
         self.step(list)?;
         Ok(())
+    }
+}
+
+// A whole upload on its way.
+#[derive(Clone, Copy)]
+struct Whole<'a> {
+    record: WholeUpload,
+    image: &'a [u8],
+}
+
+impl Steps for Whole<'_> {
+    fn step(&mut self, list: &mut List) -> Result<bool, u8> {
+        let mut out = [0u8; 4096];
+        let done = self.record.step(self.image, &mut out);
+        self.record = done.next;
+        list.add(done.step, &out)
     }
 }
 
@@ -100,12 +107,12 @@ impl Cut<'_> {
         let done = self.record.part(part, &mut out);
         self.record = done.next;
         let taken = match done.step {
-            PartStep::Taken(n) => n,
-            PartStep::WriteControl(n, control) => {
+            Ok(PartStep::Taken(n)) => n,
+            Ok(PartStep::WriteControl(n, control)) => {
                 list.put(control, &out);
                 n
             }
-            refused => return Err(refused.number()),
+            Err(error) => return Err(error.number()),
         };
         self.taken = self.taken.wrapping_add(taken);
         Ok(())
@@ -122,23 +129,15 @@ impl Cut<'_> {
         }
         Ok(())
     }
+}
 
-    fn close(&mut self, list: &mut List) -> Result<bool, u8> {
+// Closed, step by step.
+impl Steps for Cut<'_> {
+    fn step(&mut self, list: &mut List) -> Result<bool, u8> {
         let mut out = [0u8; 4096];
         let done = self.record.close(&mut out);
         self.record = done.next;
         list.add(done.step, &out)
-    }
-
-    // The close after the finish must be the finish again.
-    fn to_the_end(&mut self, list: &mut List) -> Result<(), u8> {
-        for _ in 0..TURNS {
-            if !self.close(list)? {
-                break;
-            }
-        }
-        self.close(list)?;
-        Ok(())
     }
 }
 
@@ -155,9 +154,7 @@ fn list_answer(listed: Result<(), u8>, list: &List, room: usize) -> Answer {
 
 fn list_whole(area: u16, image: &[u8], list: &mut List) -> Result<(), u8> {
     let WholeStart { start, upload } = write_area(area, image);
-    let UploadStart::Started = start else {
-        return Err(start.number());
-    };
+    start.map_err(|error| error.number())?;
     let mut whole = Whole {
         record: upload,
         image,

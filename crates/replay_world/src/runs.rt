@@ -1,42 +1,37 @@
 // "Runs": the current operation or the current upload, run against the current device with a budget of steps.
-use operation_finish::Beside;
+use operation_finish::{Beside, UsbReply};
 use replay_answers::answer::Answer;
+use replay_answers::refusals::operation_error;
 use replay_answers::told::Told;
 use replay_device::devices::{Device, Devices, refusal};
 use replay_lines::buffer::first_mut;
 use replay_lines::tokens::Tokens;
-use replay_steps::operations::{Current, Operations, finished};
-use replay_steps::uploads::{Upload, Uploads};
-use run_operation::RunAnswer;
-use run_turn::Stop;
-use run_upload::{LoadAnswer, LoadStop, run_upload};
+use replay_steps::held::Held;
+use replay_steps::operations::{Operations, reply_value};
+use replay_steps::uploads::Uploads;
+use rule_number::RuleNumber;
+use run_operation::RunError;
+use run_turn::StopError;
+use run_upload::{LoadError, LoadStopError, run_upload};
 
-fn stop_answer(stop: Stop, beside: Beside) -> Answer {
-    match stop {
-        Stop::Finished(answer) => finished(answer, beside),
-        Stop::Device(error) => Answer::from(refusal(error, beside.signature)),
-        _ => Answer::from(Told::of(stop.number(), &[])),
-    }
-}
-
-fn run_answer(answer: RunAnswer, beside: Beside) -> Answer {
+fn run_answer(answer: Result<UsbReply, RunError>, beside: Beside) -> Answer {
     match answer {
-        RunAnswer::Ended(stop) => stop_answer(stop, beside),
-        RunAnswer::OutOfSteps => Answer::from(Told::of(answer.number(), &[])),
+        Ok(reply) => reply_value(reply, beside),
+        Err(RunError::Stopped(StopError::Failed(error))) => {
+            Answer::from(operation_error(error, beside.signature))
+        }
+        Err(RunError::Stopped(StopError::Device(error))) => {
+            Answer::from(refusal(error, beside.signature))
+        }
+        Err(error) => Answer::from(Told::of(error.number(), &[])),
     }
 }
 
-fn load_stop_told(stop: LoadStop) -> Told {
-    match stop {
-        LoadStop::Device(error) => refusal(error, [0; 4]),
-        _ => Told::of(stop.number(), &[]),
-    }
-}
-
-fn load_told(answer: LoadAnswer) -> Told {
+fn load_told(answer: Result<(), LoadError>) -> Told {
     match answer {
-        LoadAnswer::Ended(stop) => load_stop_told(stop),
-        LoadAnswer::OutOfSteps => Told::of(answer.number(), &[]),
+        Ok(()) => Told::of(0, &[]),
+        Err(LoadError::Stopped(LoadStopError::Device(error))) => refusal(error, [0; 4]),
+        Err(error) => Told::of(error.number(), &[]),
     }
 }
 
@@ -46,7 +41,7 @@ pub fn run(
     devices: &mut Devices,
     mut tokens: Tokens,
 ) -> Option<Answer> {
-    let Current { record, length } = operations.current?;
+    let Held { record, length } = operations.current?;
     let Device { state, flash } = devices.current?;
     let budget = tokens.u32()?;
     tokens.end()?;
@@ -58,7 +53,7 @@ pub fn run(
         first_mut(length, operations.own),
         budget,
     );
-    operations.current = Some(Current {
+    operations.current = Some(Held {
         record: done.operation,
         length,
     });
@@ -71,7 +66,7 @@ pub fn run(
 
 // `urn`
 pub fn load(uploads: &mut Uploads, devices: &mut Devices, mut tokens: Tokens) -> Option<Answer> {
-    let Upload { record, length } = uploads.current?;
+    let Held { record, length } = uploads.current?;
     let Device { state, flash } = devices.current?;
     let budget = tokens.u32()?;
     tokens.end()?;
@@ -83,7 +78,7 @@ pub fn load(uploads: &mut Uploads, devices: &mut Devices, mut tokens: Tokens) ->
         first_mut(length, uploads.image),
         budget,
     );
-    uploads.current = Some(Upload {
+    uploads.current = Some(Held {
         record: done.upload,
         length,
     });

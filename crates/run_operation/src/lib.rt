@@ -24,6 +24,7 @@ use std::ops::ControlFlow;
 const WHOLE_BUDGET: u32 = 4;
 
 // Why a run gives no value.
+// Stays beside `LoadError` of run_upload: the two hold stops of two kinds, which one contract each tells.
 #[derive(Clone, Copy, Debug, PartialEq, Eq)]
 pub enum RunError {
     Stopped(StopError),
@@ -113,6 +114,7 @@ fn run_on(
     let mut now_device = device;
     let mut beside = Beside::blank([0, 0, 0, 0]);
     let mut steps: u32 = 0;
+    // Stays a `loop` with its count: the run yields the finish, the refusal or 28 by `break`, and tells how many steps it took.
     let answer = loop {
         if steps == budget {
             break Err(RunError::OutOfSteps);

@@ -199,6 +199,7 @@ pub fn take_turn(
         Ok(step) => step,
         Err(error) => return ended(Err(StopError::from(error)), stepped, device),
     };
+    // Stays a `match`: six steps, each with what it brings and what it is lent.
     match step {
         UsbStep::WriteCommand => write_turn(stepped.next, device, flash, &out),
         UsbStep::WriteData(size) => write_turn(stepped.next, device, flash, &source[..size]),

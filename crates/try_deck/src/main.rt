@@ -3,11 +3,11 @@
 #![tactic(auto)]
 
 use deck::bench::Bench;
-use deck_chunk::{ChunkAnswer, Deck};
+use deck_chunk::Deck;
 use deck_io::input::read_full;
 use deck_io::within;
-use std::io::{Result, Write};
 use rule_number::RuleNumber;
+use std::io::{Result, Write};
 
 // More turns than any of the decks has chunks: the chunks behind its end are empty.
 const TURNS: usize = 20;
@@ -52,7 +52,7 @@ impl Dealing {
             .deal_chunk(blocks, lines, &mut self.flash, &mut self.store);
         self.deck = step.deck;
         let answer = step.answer;
-        let ChunkAnswer::Dealt(count) = answer else {
+        let Ok(count) = answer else {
             return writeln!(to, "{}", answer.number());
         };
         let used = within(count.bytes, lines);

@@ -7,12 +7,12 @@ use Rattle.mock_base.specs.declared.error.MockTransportError.TheVariants.{Unexpe
 use Rattle.mock_table.specs.Turn.{is_in}
 use Rattle.mock_table.specs.Table.{read_io_turn}
 use Rattle.mock_table.proofs.Meets.{refused_as}
-use Rattle.mock_table.proofs.reading.read_io.Goals as goal
+use Rattle.mock_table.proofs.rows.Row.read_io.Goals as goal
 
 pub returns-in_default : goal.returns-in_default
 unfolding read_io_turn or_refuse is_in error_values
 returns-in_default c =
-    refused_as c.args.reset UnexpectedRead 54 [] refl c.refuse.ensures
+    refused_as c.args.self.reset UnexpectedRead 54 [] refl c.refuse.ensures
     (rw (ap is_in c.in_default.is) refl)
 
 pub returns : goal.returns

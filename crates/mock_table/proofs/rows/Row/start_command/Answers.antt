@@ -11,7 +11,7 @@ use Rattle.mock_table.specs.Table.{start_turn}
 use Rattle.mock_table.specs.declared.session.CommandState.TheVariants.{IO}
 use Rattle.mock_table.specs.declared.outcome.Effect.TheVariants.{Nothing}
 use Rattle.mock_table.proofs.Meets.{done_as, block_refused_lem}
-use Rattle.mock_table.proofs.writing.start_command.Goals as goal
+use Rattle.mock_table.proofs.rows.Row.start_command.Goals as goal
 use Rattle.std.specs.Prelude.{Result}
 use Rattle.std.specs.declared.result.Result.TheVariants.{Ok}
 
@@ -23,7 +23,7 @@ read_as r t m command is = sym m.tells ∙ ap (λ (x : Result CommandBlock Comma
 pub returns-in-Err : goal.returns-in-Err
 returns-in-Err c =
     let a = c.args in
-    block_refused_lem a.variety a.block_size c.from_bytes-answer.result (read_command a.«data».now) c.from_bytes-answer.ensures c.in-Err.error c.in-Err.is a.reset a.sectors
+    block_refused_lem a.self.variety a.block_size c.from_bytes-answer.result (read_command a.«data».now) c.from_bytes-answer.ensures c.in-Err.error c.in-Err.is a.self.reset a.self.sectors
     c.refuse_block.ensures
 
 pub returns-then-command-eq0 : goal.returns-then-command-eq0
@@ -39,7 +39,7 @@ unfolding start_turn
 returns c =
     let a = c.args in
     let command = c.in-Ok.command in
-    done_as (IO command) a.reset Nothing c.settle.ensures
+    done_as (IO command) a.self.reset Nothing c.settle.ensures
     (rw (
       read_as c.from_bytes-answer.result (read_command a.«data».now) c.from_bytes-answer.ensures command c.in-Ok.is,
       ne_eqb command.transfer_length 0 c.if-command-eq0.false,

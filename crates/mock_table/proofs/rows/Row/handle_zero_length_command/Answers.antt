@@ -11,7 +11,7 @@ use Rattle.mock_table.specs.Table.{zero_length_turn}
 use Rattle.mock_table.specs.declared.session.CommandState.TheVariants.{Status}
 use Rattle.mock_table.specs.declared.outcome.Effect.TheVariants.{Nothing}
 use Rattle.mock_table.proofs.Meets.{refused_as, done_as}
-use Rattle.mock_table.proofs.writing.handle_zero_length_command.Goals as goal
+use Rattle.mock_table.proofs.rows.Row.handle_zero_length_command.Goals as goal
 
 pub returns-then-is_erase : goal.returns-then-is_erase
 unfolding zero_length_turn
@@ -29,8 +29,8 @@ pub returns-then-switches : goal.returns-then-switches
 unfolding zero_length_turn
 returns-then-switches c =
     let a = c.args in
-    done_as (Status a.command (switched a.command.cd_opcode)) a.reset Nothing
-    (c.settle.ensures ∙ ap (λ (x : told.Status). settled (Status a.command x) a.reset Nothing) c.switched-status.ensures)
+    done_as (Status a.command (switched a.command.cd_opcode)) a.self.reset Nothing
+    (c.settle.ensures ∙ ap (λ (x : told.Status). settled (Status a.command x) a.self.reset Nothing) c.switched-status.ensures)
     (rw (
       sym c.is_erase.ensures ∙ c.if-is_erase.false,
       sym c.has_code.ensures ∙ c.if-has_code.false,
@@ -41,7 +41,7 @@ pub returns : goal.returns
 unfolding zero_length_turn error_values
 returns c =
     let a = c.args in
-    refused_as a.reset (UnknownCommand a.command.cd_code) 53 (code_number a.command.cd_code ∷ []) refl c.refuse.ensures
+    refused_as a.self.reset (UnknownCommand a.command.cd_code) 53 (code_number a.command.cd_code ∷ []) refl c.refuse.ensures
     (rw (
       sym c.is_erase.ensures ∙ c.if-is_erase.false,
       sym c.has_code.ensures ∙ c.if-has_code.false,

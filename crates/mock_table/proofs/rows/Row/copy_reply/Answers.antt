@@ -10,14 +10,14 @@ use Rattle.mock_table.specs.Table.{reply_turn}
 use Rattle.mock_table.specs.declared.session.CommandState.TheVariants.{Status}
 use Rattle.mock_table.specs.declared.outcome.Effect.TheVariants.{Reply}
 use Rattle.mock_table.proofs.Meets.{refused_as, done_as}
-use Rattle.mock_table.proofs.reading.copy_reply.Goals as goal
+use Rattle.mock_table.proofs.rows.Row.copy_reply.Goals as goal
 
 pub returns-then-actual-expected : goal.returns-then-actual-expected
 unfolding reply_turn or_refuse error_values
 returns-then-actual-expected c =
     let z = c.reply_size-expected in
     let a = c.args in
-    refused_as a.reset (InvalidTransferLength z.result a.actual) 50 (z.result ∷ a.actual ∷ []) refl c.refuse.ensures
+    refused_as a.self.reset (InvalidTransferLength z.result a.actual) 50 (z.result ∷ a.actual ∷ []) refl c.refuse.ensures
     (rw (← z.ensures, ne_eqb a.actual z.result c.if-actual-expected.true) refl)
 
 pub returns : goal.returns
@@ -25,5 +25,5 @@ unfolding reply_turn or_refuse
 returns c =
     let z = c.reply_size-expected in
     let a = c.args in
-    done_as (Status a.command SUCCESS) a.reset (Reply a.reply) c.settle.ensures
+    done_as (Status a.command SUCCESS) a.self.reset (Reply a.reply) c.settle.ensures
     (rw (← z.ensures, eq-eqb a.actual z.result c.if-actual-expected.false) refl)

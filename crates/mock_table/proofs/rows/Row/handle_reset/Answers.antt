@@ -12,7 +12,7 @@ use Rattle.mock_table.specs.Table.{stored_reset}
 use Rattle.mock_table.specs.declared.session.CommandState.TheVariants.{Status}
 use Rattle.mock_table.specs.declared.outcome.Effect.TheVariants.{Nothing}
 use Rattle.mock_table.proofs.Meets.{refused_as, done_as}
-use Rattle.mock_table.proofs.writing.handle_reset.Goals as goal
+use Rattle.mock_table.proofs.rows.Row.handle_reset.Goals as goal
 use Rattle.std.specs.declared.option.Option.TheVariants.{Some}
 
 pub returns-in_default : goal.returns-in_default
@@ -23,7 +23,7 @@ returns-in_default c =
     let read : reset_of byte ≡ refused 52 (byte ∷ []) =
     known_refused 52 reset_number reset_opcodes byte 52 (c.in_default.field-0.0 ∷ [])
     (sym c.try_from.ensures ∙ ap reset_read_told c.in_default.is) in
-    refused_as a.reset (InvalidReset byte) 52 (byte ∷ []) refl c.refuse.ensures (rw read refl)
+    refused_as a.self.reset (InvalidReset byte) 52 (byte ∷ []) refl c.refuse.ensures (rw read refl)
 
 pub returns : goal.returns
 unfolding stored_reset reset_read_told

@@ -10,14 +10,14 @@ use Rattle.mock_table.specs.declared.session.CommandState.TheVariants.{None}
 use Rattle.mock_table.specs.declared.outcome.Effect.TheVariants.{Reply}
 use Rattle.mock_table.specs.declared.outcome.ReplyKind.TheVariants.{Status}
 use Rattle.mock_table.proofs.Meets.{refused_as, done_as}
-use Rattle.mock_table.proofs.reading.read_status.Goals as goal
+use Rattle.mock_table.proofs.rows.Row.read_status.Goals as goal
 
 pub returns-then-actual-reply_size : goal.returns-then-actual-reply_size
 unfolding status_turn or_refuse error_values
 returns-then-actual-reply_size c =
     let z = c.reply_size in
     let a = c.args in
-    refused_as a.reset UnexpectedRead 54 [] refl c.refuse.ensures
+    refused_as a.self.reset UnexpectedRead 54 [] refl c.refuse.ensures
     (rw (← z.ensures, ne_eqb a.actual z.result c.if-actual-reply_size.true) refl)
 
 pub returns : goal.returns
@@ -25,5 +25,5 @@ unfolding status_turn or_refuse
 returns c =
     let z = c.reply_size in
     let a = c.args in
-    done_as None a.reset (Reply (Status a.command.tag a.status)) c.settle.ensures
+    done_as None a.self.reset (Reply (Status a.command.tag a.status)) c.settle.ensures
     (rw (← z.ensures, eq-eqb a.actual z.result c.if-actual-reply_size.false) refl)
