@@ -1,12 +1,13 @@
--- A header is in its first 45 bytes: what stands behind them changes nothing. And the tag is the first four of 102.
+-- A header is in its first 45 bytes: what stands behind them changes nothing. The tag is the first four of 102. And what a copy of a slice's first
+-- bytes leaves.
 use Prim.Native.Nat.{ℕ, zero, suc, ◌+◌, ◌≤◌}
-use mathlib.Core.Path.{◌≡◌, refl, ap, sym, ◌∙◌}
-use mathlib.Core.List.{List, [], ◌∷◌}
+use mathlib.Core.Path.{◌≡◌, refl, ap, ap₂, sym, ◌∙◌}
+use mathlib.Core.List.{List, [], ◌∷◌, ◌++◌, append-nil}
 use native.Mathlib.Omega.{arith}
-use lib.ListN.{length, take, get_or}
+use lib.ListN.{length, take, drop, get_or, drop_of_length-le, length-take}
 use Rattle.std.proofs.lemmas.List.{length-take-le}
 use Rattle.protocol_bytes.proofs.Short.{field_elements}
-use lib.Seq.{take-take, get_or-take}
+use lib.Seq.{take-take, take-length, get_or-take}
 use borrow.Author.Tests.{le-ltb}
 use Rattle.promise.specs.Rules.{or_refuse}
 use Rattle.promise.specs.Bytes.{field}
@@ -56,3 +57,10 @@ first_four bytes first enough e =
     let long : length first ≡ 102 = ap length e ∙ length-take-le 102 bytes enough in
     let four : 0 + 4 ≤ length first = omega arith in
     sym (field_elements 4 0 first four) ∙ ap (take 4) e ∙ take-take 4 102 bytes (omega arith)
+
+-- an array of n bytes after the first n of a slice were copied to it
+pub copied_first : (n : ℕ) (bytes before last : List ℕ) → n ≤ length bytes → length before ≡ n
+    → last ≡ take (length (take n bytes)) (take n bytes) ++ drop (length (take n bytes)) before → last ≡ take n bytes
+copied_first n bytes before last enough long e =
+    let whole : length before ≤ length (take n bytes) = simp length-take (omega arith) in
+    e ∙ ap₂ (λ (a b : List ℕ). a ++ b) (take-length (take n bytes)) (drop_of_length-le before whole) ∙ append-nil (take n bytes)

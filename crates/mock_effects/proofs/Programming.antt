@@ -9,6 +9,7 @@ use lib.Bits.{bit_and, and_comm, and_mask}
 use lib.ListN.{length, take, drop, set, get_or, replicate, length-take, length-drop}
 use lib.Seq.{drop-cons, set_at, get_or_at, take_all, take-length, ext_get_or}
 use borrow.Rule.Slice.PartMut.{put_mid}
+use borrow.Author.Tests.{eq-eqb, ne_eqb}
 use Rattle.promise.specs.Rules.{pick}
 use Rattle.promise.specs.Bytes.{front, AreBytes}
 use Rattle.promise.specs.Over.{over}
@@ -30,6 +31,24 @@ length_programmed (b ∷ bytes) (o ∷ old) = ap suc (length_programmed bytes ol
 -- whether the cells took all that was asked
 abbrev pub took : List ℕ → List ℕ → Bool
 took bytes old = same (programmed bytes old) bytes
+
+-- whether they did, place by place
+module _ (i : ℕ) (asked old : List ℕ) (here : i < length asked) (fits : length asked ≤ length old) where
+  abbrev cell : ℕ
+  cell = bit_and (get_or old i 0) (get_or asked i 0)
+
+  -- a byte that is the one asked leaves it to the rest, and any other decides
+  pub took_next : cell ≡ get_or asked i 0 → took (drop i asked) (drop i old) ≡ took (drop (i + 1) asked) (drop (i + 1) old)
+  unfolding programmed same
+  took_next e =
+      let there : i < length old = omega arith in
+      rw (add-one, drop-cons asked i 0 here, drop-cons old i 0 there, eq-eqb cell (get_or asked i 0) e) refl
+
+  pub took_not : (cell ≡ get_or asked i 0 → ⊥) → took (drop i asked) (drop i old) ≡ false
+  unfolding programmed same
+  took_not e =
+      let there : i < length old = omega arith in
+      rw (drop-cons asked i 0 here, drop-cons old i 0 there, ne_eqb cell (get_or asked i 0) e) refl
 
 -- each cell beside the byte that is asked of it keeps exactly that byte
 abbrev pub keeps_byte : ℕ × ℕ → Bool

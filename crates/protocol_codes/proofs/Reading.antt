@@ -4,11 +4,28 @@ use mathlib.Core.Path.{◌≡◌, refl, sym}
 use mathlib.Core.Bool.{Bool, true, false}
 use mathlib.Core.List.{List, [], ◌∷◌}
 use native.Mathlib.Omega.{arith}
-use borrow.Author.Tests.{eqb-true}
+use borrow.Author.Tests.{eqb-true, ne_eqb}
 use lib.Dec.{eqb}
 use Rattle.promise.specs.Told.{Told, given, refused}
 use Rattle.promise.specs.Rules.{pick}
 use Rattle.protocol_codes.specs.Reading.{by_number, known}
+
+-- what the last arm of a `match` knows of n, in the checker's shape: it is none of the arms before, the last of them outermost
+abbrev pub Missed : {A : Type 0} → (A → ℕ) → ℕ → List A → Type 0 → Type 0
+Missed number n [] before = before
+Missed number n (a ∷ rest) before = Missed number n rest (before × (n ≡ number a → ⊥))
+
+missed_both : {A B : Type 0} (found : A → B) (otherwise : B) (number : A → ℕ) (values : List A) (n : ℕ) (before : Type 0)
+    → Missed number n values before → before × (by_number found otherwise number values n ≡ otherwise)
+unfolding by_number
+missed_both found otherwise number [] n before m = (m, refl)
+missed_both found otherwise number (a ∷ rest) n before m =
+    let both = missed_both found otherwise number rest n (before × (n ≡ number a → ⊥)) m in
+    (both.0.0, rw (ne_eqb n (number a) both.0.1) both.1)
+
+pub missed : {A B : Type 0} (found : A → B) (otherwise : B) (number : A → ℕ) (values : List A) (n : ℕ)
+    → Missed number n values Unit → by_number found otherwise number values n ≡ otherwise
+missed found otherwise number values n m = (missed_both found otherwise number values n Unit m).1
 
 -- what is refused is refused by the number that was read
 found_or_refused : {A : Type 0} (t : Bool) (a : A) (rest otherwise : Told A) (m : ℕ) (vs : List ℕ)
