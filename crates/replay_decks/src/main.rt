@@ -15,7 +15,6 @@ use replay_lines::names::Call;
 use replay_lines::tokens::Tokens;
 use rule_number::RuleNumber;
 use std::io::{Result, Write};
-use rule_number::RuleNumber;
 
 // The bench, whether its deck takes another block, and the buffers that its flash and its store stand in.
 #[derive(Drop)]
