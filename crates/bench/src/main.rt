@@ -4,7 +4,7 @@
 
 use deck::bench::Bench;
 use deck_chunk::Deck;
-use deck_io::complaint::complain;
+use deck_io::complaint::say;
 use deck_io::input::{End, fill, usable_bytes};
 use deck_io::output::write_out;
 use deck_io::within;
@@ -26,7 +26,7 @@ struct Run<R: Drop, W: Drop, E: Drop> {
 impl<R: Read + Drop, W: Write + Drop, E: Write + Drop> Run<R, W, E> {
     fn say_unread(&mut self) {
         let dealt = self.deck.bench.number;
-        complain(
+        say(
             &mut self.errors,
             format_args!(
                 "bench: blocks that were dealt before that: {dealt}; what was read behind them was not; deal the deck again from its first block"
@@ -41,10 +41,10 @@ impl<R: Read + Drop, W: Write + Drop, E: Write + Drop> Run<R, W, E> {
             &mut self.to,
             &mut self.errors,
             &self.lines[..used],
-            "bench: a line could not be written",
+            b"bench: a line could not be written",
         );
         if output.is_err() {
-            complain(
+            say(
                 &mut self.errors,
                 "bench: not every line could be written; run it again with an output that takes them",
             );
@@ -63,7 +63,7 @@ impl<R: Read + Drop, W: Write + Drop, E: Write + Drop> Run<R, W, E> {
         );
         self.deck = step.deck;
         let Ok(count) = step.answer else {
-            complain(
+            say(
                 &mut self.errors,
                 "bench: a chunk was refused by 20: this program has to be mended",
             );
@@ -78,7 +78,7 @@ impl<R: Read + Drop, W: Write + Drop, E: Write + Drop> Run<R, W, E> {
             &mut self.from,
             &mut self.errors,
             &mut self.chunk,
-            "bench: the deck could not be read on",
+            b"bench: the deck could not be read on",
         );
         let is_printed = self.deal_and_print(usable_bytes(input));
         if input.end == Some(End::Failed) {
@@ -95,7 +95,7 @@ fn main(rt: HostRuntime) {
     let store = [0; 65536];
     let start = Bench::new(&mut flash, &store);
     if start.answer.result.is_err() {
-        complain(
+        say(
             &mut errors,
             "bench: the stand-in refused its flash by 60 or 61: this program has to be mended",
         );

@@ -3,7 +3,7 @@
 #![tactic(auto)]
 
 use deck_convert::Convert;
-use deck_io::complaint::complain;
+use deck_io::complaint::say;
 use deck_io::input::{End, fill, usable_bytes};
 use deck_io::output::write_out;
 use deck_io::within;
@@ -24,12 +24,12 @@ struct Run<R: Drop, W: Drop, E: Drop> {
 
 // That the whole deck was copied, whether a block of kind 13 is still in it, and whether it ends inside a block.
 fn say_done<E: Write>(errors: &mut E, convert: Convert, rest: usize) {
-    complain(
+    say(
         errors,
         format_args!("convert: blocks converted: {}", convert.converted),
     );
     if convert.left != 0 {
-        complain(
+        say(
             errors,
             format_args!(
                 "convert: blocks of kind 13 that were copied as they are, because their check is wrong: {}; an old deck goes through recheck first, and what that writes through convert; else copy the deck again and convert it from its first block, or make it again from its lines",
@@ -38,7 +38,7 @@ fn say_done<E: Write>(errors: &mut E, convert: Convert, rest: usize) {
         );
     }
     if rest != 0 {
-        complain(
+        say(
             errors,
             format_args!(
                 "convert: the deck ends inside a block, of which so many bytes were copied as they are: {rest}; it was cut short: copy it again and convert it from its first block (a file of lines is no deck: tools/make-deck makes one of it)"
@@ -49,7 +49,7 @@ fn say_done<E: Write>(errors: &mut E, convert: Convert, rest: usize) {
 
 // Stays beside that of recheck: each program says its own text.
 fn say_unread<E: Write>(errors: &mut E, blocks: u64) {
-    complain(
+    say(
         errors,
         format_args!(
             "convert: whole blocks that were written before that: {blocks}; what was read behind them was not written; convert the deck again from its first block"
@@ -65,10 +65,10 @@ impl<R: Read + Drop, W: Write + Drop, E: Write + Drop> Run<R, W, E> {
             &mut self.to,
             &mut self.errors,
             &self.chunk[..used],
-            "convert: a block could not be written",
+            b"convert: a block could not be written",
         );
         if output.is_err() {
-            complain(
+            say(
                 &mut self.errors,
                 "convert: not every block could be written; run it again with an output that takes them",
             );
@@ -91,7 +91,7 @@ impl<R: Read + Drop, W: Write + Drop, E: Write + Drop> Run<R, W, E> {
             &mut self.from,
             &mut self.errors,
             &mut self.chunk,
-            "convert: the deck could not be read on",
+            b"convert: the deck could not be read on",
         );
         let used = within(usable_bytes(input), &self.chunk);
         self.convert = self.convert.convert_chunk(&mut self.chunk[..used]);

@@ -5,11 +5,17 @@ use std::fmt::Display;
 use std::io::{Error, Write};
 
 // A line of its own.
-pub fn complain<E: Write, M: Display + Drop>(errors: &mut E, message: M) {
+pub fn say<E: Write, M: Display + Drop>(errors: &mut E, message: M) {
     let _ = writeln!(errors, "{message}");
 }
 
+// A text as it stands.
+pub fn complain<E: Write>(errors: &mut E, message: &[u8]) {
+    let _ = errors.write_all(message);
+}
+
 // What failed, and the reason that the system gives.
-pub fn complain_why<E: Write>(errors: &mut E, what: &str, why: Error) {
-    let _ = writeln!(errors, "{what}: {why}");
+pub fn complain_why<E: Write>(errors: &mut E, what: &[u8], why: Error) {
+    complain(errors, what);
+    let _ = writeln!(errors, ": {why}");
 }

@@ -42,7 +42,7 @@ pub fn fill<R: Read, E: Write>(
     from: &mut R,
     errors: &mut E,
     chunk: &mut [u8; 8192],
-    what: &str,
+    what: &[u8],
 ) -> Input
     ensures moved { Moved (is_over result.end) result.count 8192 }
     ensures ends_if { EndsIf (has_failed result.end) (is_over result.end) }

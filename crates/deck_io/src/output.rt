@@ -30,7 +30,7 @@ pub fn write_out<W: Write, E: Write>(
     to: &mut W,
     errors: &mut E,
     bytes: &[u8],
-    what: &str,
+    what: &[u8],
 ) -> Result<usize, Shut>
     ensures { Moved (is_shut result) (written result) (length bytes.now) }
 {

@@ -4,11 +4,13 @@ use mathlib.Core.Path.{◌≡◌, refl, ap, subst, ◌∙◌}
 use mathlib.Core.List.{List, [], ◌∷◌}
 use types.Run.{OneOf, miss}
 use denote.Enum.Declared.{tag_of}
+use native.Mathlib.Omega.{arith}
 use Rattle.promise.specs.Told.{Told, given, refused, number}
 use Rattle.protocol_reply.specs.Sectors.{sector_told, sectors_in, sector_error_number}
 use Rattle.protocol_reply.specs.declared.size.SectorCount.{SectorCount}
 use Rattle.protocol_reply.specs.declared.size.SectorError.{SectorError}
 use Rattle.protocol_reply.specs.declared.size.SectorError.TheVariants.{NotSectors, TooMany}
+use Rattle.std.specs.Prelude.{Result}
 use Rattle.std.specs.declared.result.Result.TheVariants.{Ok, Err}
 use Rattle.operation_finish.specs.declared.UsbReply.{UsbReply}
 use Rattle.operation_finish.specs.declared.UsbReply.TheVariants as usb
@@ -38,6 +40,13 @@ module _ (operation : ℕ → UsbOperation) (flash bytes counts : List ℕ) wher
   pub carries_refused : (error : SectorError) (size : ℕ) → sector_told (Err error) ≡ sectors_in size
       → carried (sector_error_number error) flash bytes counts ≡ carries operation (sectors_in size) flash bytes counts
   carries_refused error size told = not_run error ∙ ap (λ (t : Told SectorCount). carries operation t flash bytes counts) told
+
+  carries_counted : (a : Result SectorCount SectorError) → number (sector_told a) ≡ 0
+      → carries operation (sector_told a) flash bytes counts ≡ run_at (operation (sectors_or0 (sector_told a))) flash bytes counts
+  unfolding carries number sector_told sectors_or0
+  carries_counted (Ok count) e = refl
+  carries_counted (Err NotSectors) e = absurd (omega arith)
+  carries_counted (Err TooMany) e = absurd (omega arith)
 
   run_over : (count : SectorCount)
       → run_at (operation (sectors_or0 (sector_told (Ok count)))) flash bytes counts ≡ carries operation (sector_told (Ok count)) flash bytes counts

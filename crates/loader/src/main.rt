@@ -2,7 +2,7 @@
 
 #![tactic(auto)]
 
-use deck_io::complaint::{complain, complain_why};
+use deck_io::complaint::{complain_why, say};
 use deck_io::input::read_full;
 use loader_text::list;
 use std::io::{Read, Write};
@@ -12,12 +12,12 @@ const LARGEST: usize = 4194304;
 
 fn list_file<W: Write, E: Write>(to: &mut W, errors: &mut E, file: &[u8]) {
     if file.len() > LARGEST {
-        complain(
+        say(
             errors,
             "loader: the file is longer than 4194304 bytes (4 MiB), and nothing is listed; see that it is a loader file, which has some hundred kB, and not a whole image",
         );
     } else if let Err(why) = list(to, file) {
-        complain_why(errors, "loader: the list could not be written", why);
+        complain_why(errors, b"loader: the list could not be written", why);
     }
 }
 
@@ -30,8 +30,8 @@ fn run<R: Read, W: Write, E: Write>(
     match read_full(from, file) {
         Ok(count) => list_file(to, errors, &file[..count]),
         Err(why) => {
-            complain_why(errors, "loader: the file could not be read on", why);
-            complain(
+            complain_why(errors, b"loader: the file could not be read on", why);
+            say(
                 errors,
                 "loader: nothing is listed; see that the whole file can be read, and list it again",
             );

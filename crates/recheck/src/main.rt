@@ -2,7 +2,7 @@
 
 #![tactic(auto)]
 
-use deck_io::complaint::complain;
+use deck_io::complaint::say;
 use deck_io::input::{End, fill, usable_bytes};
 use deck_io::output::write_out;
 use deck_io::within;
@@ -26,7 +26,7 @@ fn say_bad_check<E: Write>(errors: &mut E, number: u64) {
     } else {
         "the blocks before it were written, and they are not the whole deck;"
     };
-    complain(
+    say(
         errors,
         format_args!(
             "recheck: block {number}: its old check is wrong (40); {before} copy the old deck again and recheck it from its first block, or make the deck again from its lines, which then needs no recheck"
@@ -40,7 +40,7 @@ fn say_short<E: Write>(errors: &mut E, number: u64) {
     } else {
         "the blocks before it were written, and they are not the whole deck;"
     };
-    complain(
+    say(
         errors,
         format_args!(
             "recheck: block {number}: it is short (44); {before} copy the old deck again and recheck it from its first block"
@@ -50,7 +50,7 @@ fn say_short<E: Write>(errors: &mut E, number: u64) {
 
 // Stays beside that of convert: each program says its own text.
 fn say_unread<E: Write>(errors: &mut E, rechecked: u64) {
-    complain(
+    say(
         errors,
         format_args!(
             "recheck: blocks that were rechecked before that: {rechecked}; what was read behind them was not; recheck the deck again from its first block"
@@ -66,10 +66,10 @@ impl<R: Read + Drop, W: Write + Drop, E: Write + Drop> Run<R, W, E> {
             &mut self.to,
             &mut self.errors,
             &self.chunk[..used],
-            "recheck: a block could not be written",
+            b"recheck: a block could not be written",
         );
         if output.is_err() {
-            complain(
+            say(
                 &mut self.errors,
                 "recheck: not every block could be written; run it again with an output that takes them",
             );
@@ -103,7 +103,7 @@ impl<R: Read + Drop, W: Write + Drop, E: Write + Drop> Run<R, W, E> {
             &mut self.from,
             &mut self.errors,
             &mut self.chunk,
-            "recheck: the deck could not be read on",
+            b"recheck: the deck could not be read on",
         );
         let used = within(usable_bytes(input), &self.chunk);
         let step = self.recheck.recheck_chunk(&mut self.chunk[..used]);
