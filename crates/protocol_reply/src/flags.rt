@@ -46,6 +46,7 @@ impl Capability {
         b[index] & bit == bit
     }
 
+    // Stay nine: the Rust's names, each with its constant.
     pub fn direct_lba(self) -> bool
         ensures { result ≡ has_flag direct_lba self.0 }
     {
