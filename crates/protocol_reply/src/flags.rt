@@ -34,8 +34,7 @@ impl Capability {
     pub fn inner(self) -> [u8; 8]
         ensures { result ≡ self.0 }
     {
-        let bytes: [u8; 8] = self.0;
-        bytes
+        self.0
     }
 
     fn check_flag(self, index: usize, bit: u8) -> bool
