@@ -23,8 +23,7 @@ use rule_number::{OutputTooShort, RuleNumber};
 // Total size of a command block.
 pub const COMMAND_BLOCK_BYTES: usize = 31;
 
-// USBC
-const SIGNATURE: [u8; 4] = [0x55, 0x53, 0x42, 0x43];
+const SIGNATURE: [u8; 4] = *b"USBC";
 
 // Length of the command data block: for a command with nothing but an opcode, and for one over sectors.
 const SHORT_CDB: u8 = 0x6;
