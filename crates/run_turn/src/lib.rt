@@ -74,7 +74,7 @@ pub struct UsbTurned {
 pub fn is_write(kind: Kind) -> bool
     ensures { result ≡ is_write kind }
 {
-    matches!(kind, Kind::Write)
+    kind == Kind::Write
 }
 
 // What the device's answer to a transfer makes of the run.
