@@ -110,7 +110,8 @@ pub struct MaskRomOperation {
     pub block: [u8; 4096],
 }
 
-// Stays beside `CloseStepped` and `WholeStepped`: a step's answer and the next record, three kinds of them in three promises (`PartMeets`, `CloseMeets`, `StepMeets`).
+// Stay pairs: document 01 has the record handed back beside the answer.
+// Stay three types: `PartMeets`, `CloseMeets`, `StepMeets` and the theorems over them name each.
 #[derive(Clone, Copy, Debug, PartialEq, Eq)]
 pub struct PartStepped {
     pub step: Result<PartStep, PartError>,
@@ -133,6 +134,7 @@ pub struct WholeUpload {
     pub steps: MaskRomSteps,
 }
 
+// Stays a record beside its answer: `StartMeets` tells the record at a refusal too.
 #[derive(Clone, Copy, Debug, PartialEq, Eq)]
 pub struct WholeStart {
     pub start: Result<(), ImageTooLong>,
@@ -292,8 +294,8 @@ fn chunk_size(steps: MaskRomSteps, left: usize) -> usize
     }
 }
 
-// The check over the chunk. One of few bytes goes by the table at once: `crc::update` would do no other with them, but it holds room on the stack for
-// the table of its other way besides.
+// Stays beside `crc::update`, the check over the chunk: one of few bytes goes by the table at once. `crc::update` would do no other with them, but it
+// holds room on the stack for the table of its other way besides.
 fn crc_over(crc: u16, chunk: &[u8]) -> u16
     ensures { result ≡ crc_over crc chunk.now }
 {

@@ -30,6 +30,7 @@ pub struct Moved {
 }
 
 // The bytes go to the front of the output.
+// Stay parameters, here and below: a value and what is lent with it.
 fn put(bytes: &[u8], out: &mut [u8]) -> usize
     requires { length bytes.now ≤ length out.old }
     ensures { PutMeets result bytes.now out.old out.new }
@@ -131,7 +132,7 @@ pub fn send_lent(
 }
 
 // The same, of the first n bytes of a block.
-// Stays beside `send_lent`: a block by value with its count, as a record holds it.
+// Stays beside `send_lent`: its contract is promised (docs/PROMISES.md), of a block by value.
 pub fn send(
     steps: MaskRomSteps,
     crc: u16,

@@ -40,14 +40,14 @@ abbrev refusal_of : ℕ → List ℕ → Result UsbStep StepError
 refusal_of n values =
     Err (pick (eqb n 20) step_error.OutputTooShort (pick (eqb n 27) step_error.DataDiffers (failure_of (answer_of (refused n values)))))
 
-abbrev read_of : Asked → ℕ → (Result UsbStep StepError)
+abbrev read_of : Asked → ℕ → Result UsbStep StepError
 read_of asked.Nothing n = Ok step.WriteCommand
 read_of asked.Inband n = Ok (step.ReadInband n)
 read_of asked.Sectors n = Ok (step.ReadData n)
 read_of asked.Status n = Ok (step.ReadStatus n)
 
 -- the answer that tells this
-abbrev pub step_for : Told Asks → (Result UsbStep StepError)
+abbrev pub step_for : Told Asks → Result UsbStep StepError
 step_for (given writes_command) = Ok step.WriteCommand
 step_for (given (writes_data n)) = Ok (step.WriteData n)
 step_for (given (reads a n)) = read_of a n
@@ -93,7 +93,7 @@ step_unique r s before after₁ after₂ t p q =
     ap₂ (λ (x : Result UsbStep StepError) (b : Beside). record { step = x; beside = b; next = r.next }) steps (p.beside ∙ sym q.beside) in
     (same ∙ ap (λ (o : UsbOperation). record { step = s.step; beside = s.beside; next = o }) (p.next ∙ sym q.next), p.leaves ∙ sym q.leaves)
 
-abbrev giving_of : Told Unit → (Result Unit GivingError)
+abbrev giving_of : Told Unit → Result Unit GivingError
 giving_of (given u) = Ok tt
 giving_of (refused n values) = pick (eqb n 22) (Err giving_error.NotAsked) (pick (eqb n 21) (Err giving_error.TooMany) (Err giving_error.DataDiffers))
 

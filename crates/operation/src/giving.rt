@@ -30,6 +30,7 @@ impl RuleNumber for GivingError {
     }
 }
 
+// Stays a pair: document 01 has the record handed back beside the answer.
 #[derive(Clone, Copy)]
 pub struct UsbGiven {
     pub answer: Result<(), GivingError>,

@@ -12,12 +12,14 @@ use protocol_codes::{ResetOpcode, StorageIndex};
 use protocol_reply::size::{SectorCount, SectorError, sector_count};
 
 // How many sectors the data has, or 23 or 24 with an operation of length 0.
+// Stays a record beside its answer: `StartMeets` tells the record at a refusal too.
 #[derive(Clone, Copy)]
 pub struct UsbStart {
     pub answer: Result<SectorCount, SectorError>,
     pub operation: UsbOperation,
 }
 
+// Stay nine, to `switch_storage`: the Rust's names, each with its constant.
 pub fn chip_info(tag: u32) -> UsbOperation
     ensures { result ≡ fresh Kind.ChipInfo (chip_info_command tag) }
 {

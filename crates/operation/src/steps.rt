@@ -93,6 +93,7 @@ impl RuleNumber for StepError {
     }
 }
 
+// Stays a pair: document 01 has the record handed back beside the answer.
 #[derive(Clone, Copy)]
 pub struct UsbStepped {
     pub step: Result<UsbStep, StepError>,
@@ -140,6 +141,7 @@ fn zero_tail(out: &mut [u8])
     out[24..31].fill(0);
 }
 
+// Stays: of a lent slice, where `first_of` of operation_finish is of an array by value.
 fn first_13(out: &[u8]) -> [u8; 13]
     requires { 13 ≤ length out.now }
     ensures { result ≡ take 13 out.now }

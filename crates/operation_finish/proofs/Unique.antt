@@ -33,7 +33,7 @@ failure_of n values =
     (pick (eqb n 13) InvalidStatusLength (pick (eqb n 14) ReplyParseFailure FailedStatus))))
 
 -- the answer that tells this
-abbrev pub answer_of : Told Reply → (Result UsbReply UsbOperationError)
+abbrev pub answer_of : Told Reply → Result UsbReply UsbOperationError
 answer_of (given reply) = Ok (usb_of reply)
 answer_of (refused n values) = Err (failure_of n values)
 

@@ -68,6 +68,7 @@ pub struct Beside {
     pub capability: Capability,
 }
 
+// Stays a pair: arrays stand beside an enum, never in it (document 01).
 #[derive(Clone, Copy)]
 pub struct Finished {
     pub answer: Result<UsbReply, UsbOperationError>,
@@ -129,6 +130,7 @@ fn replied_beside(reply: UsbReply, beside: Beside) -> Finished
     }
 }
 
+// Stay four, to `capability_of`: each fills a wrapper of its own (document 01).
 fn chip_info_of(inband: [u8; 16]) -> Finished
     ensures { result ≡ replied_with UsbReply.ChipInfo (besides no_signature (record { 0 = inband }) no_flash_id no_flash_info no_capability) }
 {

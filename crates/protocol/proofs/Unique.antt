@@ -27,7 +27,7 @@ command_error_of_lem InvalidSignature signature = refl
 command_error_of_lem (UnknownFlags byte) signature = refl
 command_error_of_lem (UnknownCommandCode byte) signature = refl
 
-abbrev answer_of : Told CommandBlock → (Result CommandBlock CommandBlockParseError)
+abbrev answer_of : Told CommandBlock → Result CommandBlock CommandBlockParseError
 answer_of (given b) = Ok b
 answer_of (refused n values) = Err (command_error_of n values)
 

@@ -230,12 +230,12 @@ pub byte_for_number : 2 ≡ command_error_number (UnknownCommandCode 2) → ⊥
 unfolding command_error_number
 byte_for_number e = omega arith
 
--- `CommandAnswer::number` that tells 0 for a refusal
+-- `number` of a command answer that tells 0 for a refusal
 pub refusal_told_as_0 : 0 ≡ number (command_told (Err (InvalidLength 30)) no_signature) → ⊥
 unfolding number command_told command_error_number
 refusal_told_as_0 e = omega arith
 
--- `CommandAnswer::number` that tells the code where a command was read
+-- `number` of a command answer that tells the code where a command was read
 pub code_for_number : code_number one.cd_code ≡ number (command_told (Ok one) no_signature) → ⊥
 unfolding number command_told
 code_for_number e = omega arith

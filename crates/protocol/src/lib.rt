@@ -23,8 +23,7 @@ use rule_number::{OutputTooShort, RuleNumber};
 // Total size of a command block.
 pub const COMMAND_BLOCK_BYTES: usize = 31;
 
-// USBC
-const SIGNATURE: [u8; 4] = [0x55, 0x53, 0x42, 0x43];
+const SIGNATURE: [u8; 4] = *b"USBC";
 
 // Length of the command data block: for a command with nothing but an opcode, and for one over sectors.
 const SHORT_CDB: u8 = 0x6;
@@ -145,6 +144,7 @@ fn block_of(bytes: &[u8], flags: Direction, code: CommandCode) -> CommandBlock
 }
 
 impl CommandBlock {
+    // Stay, all to `switch_storage`: the Rust's names, each with its constant.
     pub fn flash_id(tag: u32) -> CommandBlock
         ensures { result ≡ flash_id_command tag }
     {
@@ -316,7 +316,7 @@ impl CommandBlock {
     }
 
     // Fills the first 24 bytes and answers 31: the rest is the caller's.
-    // Stays beside that of the status block: the two have arrays of two sizes, and their contracts tell two definitions.
+    // Stays beside that of the status block: two arrays of two sizes, each with a fact of its own block beside (`BlockFits`, `StatusFits`).
     #[tactic(auto, unfolding(crate::specs::CommandBytes::write_command, protocol_bytes::specs::Writing::writing, protocol_bytes::specs::Writing::written_told, promise::specs::Rules::or_refuse))]
     pub fn to_bytes(self, out: &mut [u8]) -> Result<usize, OutputTooShort>
         ensures write_meets { WriteMeets result out.old out.new (write_command self (length out.old)) }

@@ -1,5 +1,6 @@
 // A number from and to its bytes, after the Rust's from_le_bytes and to_be_bytes.
 // Each calls the library's method of that name: its contract says the same in the words of `Bytes`, in which the blocks are stated.
+// Stay: at the library's own method each of their callers would owe the lemma that is named once here.
 ghost use Rattle.std.specs.Prelude.{◌≡◌};
 ghost use Rattle.promise.specs.Bytes.{low_first, high_first, from_low, from_high};
 

@@ -17,6 +17,7 @@ pub enum Direction {
 }
 
 // 3: a flags byte that is no direction.
+// Stay four, with `UnknownCode`, `UnknownStatus` and `UnknownReset`: none passes for another, and each has a number of its own.
 #[derive(Clone, Copy, Debug, PartialEq, Eq)]
 pub struct UnknownDirection(pub u8);
 
@@ -234,7 +235,7 @@ impl TryFrom<u8> for ResetOpcode {
 }
 
 // A storage medium by its place among the boot types: every byte is one, by name or by its number.
-// `Unknown` is no refusal: every byte is an index.
+// Stays: `Unknown` is no refusal, since every byte is an index.
 #[derive(Clone, Copy, Debug, PartialEq, Eq)]
 pub enum StorageIndex {
     Nand,

@@ -14,7 +14,7 @@ use Rattle.std.specs.declared.result.Result.TheVariants.{Ok, Err}
 use Rattle.protocol_reply.specs.declared.size.SectorError.{SectorError}
 use Rattle.protocol_reply.specs.declared.size.SectorError.TheVariants as sector_error
 
-abbrev storage_of : Told StorageIndex → (Result StorageIndex NotOneBit)
+abbrev storage_of : Told StorageIndex → Result StorageIndex NotOneBit
 storage_of (given index) = Ok index
 storage_of (refused n values) = Err (record {})
 
@@ -26,7 +26,7 @@ storage_of_lem (Err e) = refl
 pub storage_unique : (told : Told StorageIndex) (r s : Result StorageIndex NotOneBit) → storage_told r ≡ told → storage_told s ≡ told → r ≡ s
 storage_unique told r s p q = sym (storage_of_lem r) ∙ ap storage_of (p ∙ sym q) ∙ storage_of_lem s
 
-abbrev sectors_of : Told SectorCount → (Result SectorCount SectorError)
+abbrev sectors_of : Told SectorCount → Result SectorCount SectorError
 sectors_of (given count) = Ok count
 sectors_of (refused n values) = pick (eqb n 23) (Err sector_error.NotSectors) (Err sector_error.TooMany)
 

@@ -34,8 +34,7 @@ impl Capability {
     pub fn inner(self) -> [u8; 8]
         ensures { result ≡ self.0 }
     {
-        let bytes: [u8; 8] = self.0;
-        bytes
+        self.0
     }
 
     fn check_flag(self, index: usize, bit: u8) -> bool
@@ -46,6 +45,7 @@ impl Capability {
         b[index] & bit == bit
     }
 
+    // Stay nine: the Rust's names, each with its constant.
     pub fn direct_lba(self) -> bool
         ensures { result ≡ has_flag direct_lba self.0 }
     {

@@ -19,8 +19,7 @@ impl ChipInfo {
     pub fn inner(self) -> [u8; 16]
         ensures { result ≡ self.0 }
     {
-        let bytes: [u8; 16] = self.0;
-        bytes
+        self.0
     }
 }
 
@@ -37,8 +36,7 @@ impl FlashId {
     pub fn inner(self) -> [u8; 5]
         ensures { result ≡ self.0 }
     {
-        let bytes: [u8; 5] = self.0;
-        bytes
+        self.0
     }
 }
 
@@ -81,7 +79,6 @@ impl FlashInfo {
     pub fn inner(self) -> [u8; 11]
         ensures { result ≡ self.0 }
     {
-        let bytes: [u8; 11] = self.0;
-        bytes
+        self.0
     }
 }

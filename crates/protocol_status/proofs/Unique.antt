@@ -18,7 +18,7 @@ use Rattle.protocol_status.specs.Failure.{failure_number, failure_values, failur
 use Rattle.std.specs.Prelude.{Result}
 use Rattle.std.specs.declared.result.Result.TheVariants.{Ok, Err}
 
-abbrev answer_of : Told CommandStatus → (Result CommandStatus CommandStatusParseError)
+abbrev answer_of : Told CommandStatus → Result CommandStatus CommandStatusParseError
 answer_of (given s) = Ok s
 answer_of (refused n values) =
     Err (pick (eqb n 5) (InvalidLength (get_or values 0 0)) (pick (eqb n 6) InvalidSignature (InvalidStatus (get_or values 0 0))))

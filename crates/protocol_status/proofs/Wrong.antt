@@ -134,12 +134,12 @@ pub number_of_the_reader : number (status_error_told InvalidSignature no_signatu
 unfolding number failure_number status_error_told
 number_of_the_reader e = omega arith
 
--- `StatusAnswer::number` that tells 0 for a refusal
+-- `number` of a status answer that tells 0 for a refusal
 pub refusal_told_as_0 : 0 ≡ number (status_told (Err InvalidSignature) no_signature) → ⊥
 unfolding number status_told status_error_told
 refusal_told_as_0 e = omega arith
 
--- `StatusAnswer::number` that tells a refusal where a status was read
+-- `number` of a status answer that tells a refusal where a status was read
 pub status_told_as_refusal : (s : CommandStatus) → 7 ≡ number (status_told (Ok s) no_signature) → ⊥
 unfolding number status_told
 status_told_as_refusal s e = omega arith

@@ -14,8 +14,7 @@ use rule_number::{OutputTooShort, RuleNumber};
 // Total size of a status block.
 pub const COMMAND_STATUS_BYTES: usize = 13;
 
-// USBS
-const SIGNATURE: [u8; 4] = [0x55, 0x53, 0x42, 0x53];
+const SIGNATURE: [u8; 4] = *b"USBS";
 
 #[derive(Clone, Copy, Debug, PartialEq, Eq)]
 pub struct CommandStatus {

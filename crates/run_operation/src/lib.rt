@@ -24,7 +24,7 @@ use std::ops::ControlFlow;
 const WHOLE_BUDGET: u32 = 4;
 
 // Why a run gives no value.
-// Stays beside `LoadError` of run_upload: the two hold stops of two kinds, which one contract each tells.
+// Stays beside `LoadError`: theorems name each (`run_number`, `answer_number`), and a generic one would hide which stop it holds.
 #[derive(Clone, Copy, Debug, PartialEq, Eq)]
 pub enum RunError {
     Stopped(StopError),
@@ -53,6 +53,7 @@ impl RuleNumber for RunError {
 
 // `beside` has what no enum can hold: a reply's bytes, or the signature of 11 or 56. `operation` and `device` are as the last step left them, `steps`
 // counts the run's own step calls.
+// Stays a pair: document 01 has the record handed back beside the answer.
 #[derive(Clone, Copy)]
 pub struct UsbRun {
     pub answer: Result<UsbReply, RunError>,
@@ -114,7 +115,7 @@ fn run_on(
     let mut now_device = device;
     let mut beside = Beside::blank([0, 0, 0, 0]);
     let mut steps: u32 = 0;
-    // Stays a `loop` with its count: the run yields the finish, the refusal or 28 by `break`, and tells how many steps it took.
+    // Stays a `loop` left by `break`, with its count: document 01's form of the run.
     let answer = loop {
         if steps == budget {
             break Err(RunError::OutOfSteps);
@@ -168,6 +169,7 @@ fn run_over(
 }
 
 // Runs an operation from wherever it stands: a read fills the data, a write takes its bytes from it, any other leaves it.
+// Stay two of each (`run_write`, `run_whole_write`): one is lent data for reading alone.
 pub fn run(
     operation: UsbOperation,
     device: MockState,

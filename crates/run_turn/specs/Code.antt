@@ -26,7 +26,7 @@ turn_after (Ok u) = (Continue tt)
 turn_after (Err error) = Break (Err (stop.Device error))
 
 -- a read's bytes are given where the device did it
-abbrev pub where_done : {A : Type 0} → (Result Unit MockTransportError) → A → A → A
+abbrev pub where_done : {A : Type 0} → Result Unit MockTransportError → A → A → A
 where_done (Ok u) after before = after
 where_done (Err error) after before = before
 

@@ -60,6 +60,7 @@ impl RuleNumber for StopError {
 }
 
 // What one step and its transfer come to: the run goes on, or it ends with the operation's value or a refusal.
+// Stays a pair: document 01 has the record handed back beside the answer.
 #[derive(Clone, Copy)]
 pub struct UsbTurned {
     pub turn: ControlFlow<Result<UsbReply, StopError>>,
@@ -73,7 +74,7 @@ pub struct UsbTurned {
 pub fn is_write(kind: Kind) -> bool
     ensures { result ≡ is_write kind }
 {
-    matches!(kind, Kind::Write)
+    kind == Kind::Write
 }
 
 // What the device's answer to a transfer makes of the run.

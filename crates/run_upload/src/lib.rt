@@ -63,6 +63,7 @@ impl From<UploadError> for LoadStopError {
 }
 
 // Why a run ends before the finish.
+// Stays beside `RunError` of run_operation: theorems name each (`run_number`, `answer_number`), and a generic one would hide which stop it holds.
 #[derive(Clone, Copy, Debug, PartialEq, Eq)]
 pub enum LoadError {
     Stopped(LoadStopError),
@@ -90,6 +91,7 @@ impl From<LoadStopError> for LoadError {
 }
 
 // What one step and its transfer come to: one more, or the end of the run.
+// Stays a pair, as `LoadRun` does: document 01 has the record handed back beside the answer.
 #[derive(Clone, Copy)]
 pub struct LoadTurned {
     pub turn: ControlFlow<Result<(), LoadStopError>>,
