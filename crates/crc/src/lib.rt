@@ -1,4 +1,5 @@
 // CRC-16/IBM-3740: eight bytes at a time as one number, or a byte at a time by a table of 256 entries.
+// Stays: `crc_over` stands in each contract, since these are ways to one value; the register is a u16 (document 01).
 
 #![tactic(auto)]
 

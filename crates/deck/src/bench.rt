@@ -1,4 +1,5 @@
 // A deck: one 512-byte block after the other, each dealt to the stand-in.
+// Stays: lent buffers are parameters of their own, since a contract tells each before and after.
 ghost use Rattle.std.specs.Prelude.{◌≡◌, length};
 ghost use Rattle.deck.specs.Bench.{StartMeets, StepMeets};
 
@@ -20,6 +21,7 @@ pub struct Bench {
 }
 
 // Done, or 60 or 61 for the lent flash, and the bench, fresh in either case.
+// Stays a pair: document 01 has the record handed back beside the answer.
 #[derive(Clone, Copy)]
 pub struct BenchStart {
     pub answer: MockAnswer,

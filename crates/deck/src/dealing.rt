@@ -1,4 +1,5 @@
 // One block of a deck dealt to the stand-in.
+// Stays at (tag, first, count): they are the Rust's parameters.
 ghost use Rattle.std.specs.Prelude.{◌≡◌, ◌*◌, ◌≤◌, [], length, replicate};
 ghost use Rattle.protocol.specs.Commands.{read_lba_command, write_lba_command};
 ghost use Rattle.operation_finish.specs.declared.Kind.TheVariants as kind;
@@ -29,7 +30,7 @@ fn filled(fill: u8) -> [u8; 8192]
 }
 
 // An operation without sector data.
-// The device and each lent buffer stay parameters of their own, here and in the runs: a contract names every one of them before and after.
+// Stays: the device and each lent buffer are parameters of their own, here and in the runs, since a contract tells each before and after.
 fn command(operation: UsbOperation, device: MockState, flash: &mut [u8], store: &[u8]) -> Dealt
     ensures { DealMeets result flash.new store.now (operate operation [] (head device flash.old store.now)) }
 {

@@ -13,6 +13,7 @@ use run_operation::UsbRun;
 use run_upload::{LoadError, LoadRun};
 
 // A refusal, whichever it is, by its number in the rules.
+// Stays a number: a verdict holds refusals of three enums, and a line prints the number alone.
 #[derive(Clone, Copy, Debug, PartialEq, Eq)]
 pub struct RefusalNumber(pub u8);
 

@@ -11,7 +11,7 @@ use Rattle.deck_block.specs.declared.CardError.{CardError}
 use Rattle.std.specs.declared.result.Result.TheVariants.{Ok, Err}
 use Rattle.deck_block.specs.declared.CardError.TheVariants as card_error
 
-unfoldable pub answer_of : Told Request → (Result Request CardError)
+unfoldable pub answer_of : Told Request → Result Request CardError
 answer_of (given r) = Ok r
 answer_of (refused n values) =
     pick (eqb n 44) (Err card_error.Short)

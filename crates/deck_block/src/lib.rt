@@ -16,6 +16,7 @@ use rule_number::RuleNumber;
 const CARD_BYTES: usize = 512;
 
 // Upload without check.
+// Stays a number, as `kind` of the fields and what asks it do: 40 comes before 46 and 41, and one `match` makes the request.
 const WITHDRAWN: u8 = 13;
 
 // What a block asks for: an operation with its address and count, or an upload with its area and length; then the fill byte.
@@ -100,12 +101,14 @@ fn all_zero(bytes: &[u8]) -> bool
 fn is_kind(kind: u8) -> bool
     ensures { result ≡ is_kind kind }
 {
+    // Stays a number: a kind is no request before 41, 42 and 43.
     (1..=12).contains(&kind)
 }
 
 fn too_large(f: Fields) -> bool
     ensures { result ≡ too_large f }
 {
+    // Stays a number: 43 comes before 45, and one `match` makes the request.
     match f.kind {
         7 | 8 => 16 < f.half,
         12 => 8192 < f.word,

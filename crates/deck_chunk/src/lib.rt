@@ -19,6 +19,7 @@ const BLOCK: usize = 512;
 const LONGEST_LINE: usize = 64;
 
 // The bench between two chunks, and whether a short block has ended the deck.
+// Stays a flag beside the bench, and no enum: once a short block came, the bench is still shown.
 #[derive(Clone, Copy)]
 pub struct Deck {
     pub bench: Bench,
@@ -33,6 +34,7 @@ pub struct ChunkCount {
 }
 
 // The count, or 20 for the buffer for the lines.
+// Stays a pair: document 01 has the record handed back beside the answer.
 #[derive(Clone, Copy)]
 pub struct ChunkStep {
     pub answer: Result<ChunkCount, OutputTooShort>,
@@ -47,6 +49,7 @@ struct Lined {
 }
 
 // How far a chunk is dealt.
+// Stays a record of counts: nothing here allocates, and the lines go to a lent buffer.
 #[derive(Clone, Copy)]
 struct Progress {
     deck: Deck,

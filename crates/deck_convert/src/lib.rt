@@ -11,6 +11,8 @@ use deck_block::{CardError, read_card};
 
 const BLOCK: usize = 512;
 
+// Upload with check.
+// Stays a number, as that without check does: it is put in the block's bytes.
 const UPLOAD: u8 = 12;
 
 // Upload without check.
@@ -73,7 +75,7 @@ impl Convert {
     pub fn convert_chunk(mut self, chunk: &mut [u8]) -> Convert
         ensures { ConvertMeets result chunk.new chunk.old self }
     {
-        // By place and not by `chunks_mut`, whose contract does not say what the slice holds behind it.
+        // Stays by place, with no `chunks_mut`: its contract does not say what the slice holds behind it.
         for at in (0..chunk.len()).step_by(BLOCK) {
             let end = chunk.len().min(at + BLOCK);
             self = self.convert_block(&mut chunk[at..end]);

@@ -53,6 +53,7 @@ pub struct Recheck {
 }
 
 // How many of the chunk's first bytes are rechecked, and the deck behind them.
+// Stays a pair: document 01 has the record handed back beside the answer.
 #[derive(Clone, Copy, Debug, PartialEq, Eq)]
 pub struct RecheckStep {
     pub bytes: usize,
@@ -131,7 +132,7 @@ impl Recheck {
     pub fn recheck_chunk(mut self, chunk: &mut [u8]) -> RecheckStep
         ensures { RecheckMeets result chunk.new chunk.old (recheck_all chunk.old (standing self)) }
     {
-        // By place and not by `chunks_mut`, whose contract does not say what the slice holds behind it.
+        // Stays by place, with no `chunks_mut`: its contract does not say what the slice holds behind it.
         for from in (0..chunk.len()).step_by(BLOCK) {
             let step = recheck_next(self, from, chunk);
             if step.bytes == from {

@@ -1,4 +1,5 @@
 // An upload driven to its end over one lent output, with a budget of calls.
+// Stays a number from here on, in each pace and in `HandedOver`: C is told it.
 ghost use Rattle.std.specs.Prelude.{◌≡◌};
 ghost use Rattle.maskrom.specs.Answers.{step_told, part_told};
 ghost use Rattle.maskrom.specs.PartWise.{close_step};

@@ -1,5 +1,7 @@
 // What `ffi_c` exports to C and Rust: the proved functions over numbers, byte slices and a pair of counts, each with the contract of the one that it calls.
 // `commands` has commands as numbers, `sectors` sector operations, `uploads` uploads to their end, `driving` the loops of an upload.
+// Stays a number for a refusal, at every export: C takes no other answer.
+// Stays: a clause stands three times, here, in `ffi_c` and at what is called, since an export has the clauses of what it calls.
 
 #![tactic(auto)]
 

@@ -6,7 +6,6 @@ use maskrom::{MaskRomOperation, write_area};
 use rule_number::RuleNumber;
 
 // A whole upload to its finish, each transfer at the front of `out`: 28 past `budget` steps.
-// Numbers stay for refusals in this crate: C takes no other answer.
 pub fn whole(area: u16, image: &[u8], out: &mut [u8], budget: u32) -> u8
     ensures { DriveMeets result out.new (whole_drive area image.now out.old budget) }
 {

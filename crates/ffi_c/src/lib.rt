@@ -1,4 +1,5 @@
 // What C and Rust link: each function of `ffi` under its own name, with its clauses.
+// Stays clause by clause: an export has the clauses of what it calls.
 
 #![tactic(auto)]
 

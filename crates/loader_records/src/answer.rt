@@ -1,16 +1,16 @@
-// Why a loader file can't be read. The four bytes of an unknown tag stand beside it.
+// Why a loader file, or a record of one, can't be read. The four bytes of an unknown tag stand beside it.
 ghost use Rattle.loader_records.specs.Refusals.{boot_error_number};
 
 use rule_number::RuleNumber;
 
-// Why a loader file, or a record of one, can't be read.
 #[derive(Clone, Copy, Debug, PartialEq, Eq)]
 pub enum RkBootError {
     // 70: how many bytes there are
     TooShort(usize),
     // 71: neither `BOOT` nor `LDR `
     UnknownTag,
-    // 72, 73, 74: the list (0 for 471, 1 for 472, 2 for loader, as a walk has it) and the entry
+    // 72, 73, 74: the list (0 for 471, 1 for 472, 2 for loader) and the entry
+    // Stays a number for the list: a walk's list is one.
     SizeBelowEntry(u8, u16),
     EntryPastEnd(u8, u16),
     DataPastEnd(u8, u16),

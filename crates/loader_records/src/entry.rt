@@ -23,7 +23,7 @@ pub struct RkBootEntry {
     pub data_delay: u32,
 }
 
-// The record stands beside the answer, zeros where it is refused.
+// Stays a record beside its answer: `ReadMeets` tells zeros at a refusal.
 #[derive(Clone, Copy, Debug, PartialEq, Eq)]
 pub struct RkBootEntryRead {
     pub answer: Result<(), RkBootError>,

@@ -34,7 +34,7 @@ pub struct RkBootHeader {
     pub rc4_flag: u8,
 }
 
-// The record stands beside the answer, zeros where it is refused.
+// Stays a record beside its answer: `ReadMeets` tells zeros at a refusal.
 #[derive(Clone, Copy, Debug, PartialEq, Eq)]
 pub struct RkBootHeaderRead {
     pub answer: Result<(), RkBootError>,

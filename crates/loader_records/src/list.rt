@@ -16,7 +16,7 @@ pub struct RkBootHeaderEntry {
     pub size: u8,
 }
 
-// The record stands beside the answer, zeros where it is refused.
+// Stays a record beside its answer: `ReadMeets` tells zeros at a refusal.
 #[derive(Clone, Copy, Debug, PartialEq, Eq)]
 pub struct RkBootHeaderEntryRead {
     pub answer: Result<(), RkBootError>,

@@ -19,7 +19,7 @@ pub struct RkTime {
     pub second: u8,
 }
 
-// The record stands beside the answer, zeros where it is refused.
+// Stays a record beside its answer: `ReadMeets` tells zeros at a refusal.
 #[derive(Clone, Copy, Debug, PartialEq, Eq)]
 pub struct RkTimeRead {
     pub answer: Result<(), RkBootError>,

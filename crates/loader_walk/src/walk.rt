@@ -14,7 +14,7 @@ const LISTS: u8 = 3;
 
 // Where a walk stands: a list (0 for 471, 1 for 472, 2 for loader), and the entry of it that is looked for next. An entry past its list's last is the
 // next list's first, and a list past the third is the end.
-// The list is a number and no enum, since a walk is a record of any values (docs/RULES.md).
+// Stays a number for the list, and no enum: a walk is a record of any values (docs/RULES.md).
 #[derive(Clone, Copy, Debug, PartialEq, Eq)]
 pub struct Walk {
     pub list: u8,
@@ -46,7 +46,7 @@ pub struct WalkStep {
 pub fn list_at(header: RkBootHeader, list: u8) -> RkBootHeaderEntry
     ensures { result ≡ list_at header list }
 {
-    // Stays a number and its `match`: a walk is a record of any values, and a list above 2 is `loader`'s.
+    // Stays a number and its `match`: a walk is a record of any values, and behind the third list there is none.
     match list {
         0 => header.entry_471,
         1 => header.entry_472,

@@ -1,4 +1,5 @@
 // The device's record, handed in and back by value; its flash and its area store are lent.
+// Stays: lent buffers are parameters of their own, since a contract tells each before and after.
 ghost use Rattle.std.specs.Prelude.{◌≡◌, length};
 ghost use Rattle.mock.specs.Device.{is_upload, session_of, MockMeets, CreateMeets, fresh_state, create_told, created, write_bulk, read_bulk, write_control, maskrom_area};
 ghost use Rattle.mock_base.specs.Told.{Answers};
@@ -26,6 +27,7 @@ pub struct MockState {
     pub current_command: CommandState,
 }
 
+// Stays a pair: document 01 has the record handed back beside the answer.
 #[derive(Clone, Copy)]
 pub struct MockStep {
     pub answer: MockAnswer,
@@ -39,7 +41,7 @@ fn is_upload(request_type: u8, request: u8, value: u16) -> bool
     request_type == 0x40 && request == 0xc && value == 0
 }
 
-// No From: both types are of other crates, of which neither stands on the other.
+// Stays a function, with no From: both types are of other crates, of which neither stands on the other.
 #[tactic(auto, unfolding(crate::specs::Code::area_error))]
 fn area_error(error: AreaError) -> MockTransportError
     ensures { result ≡ area_error error }
@@ -163,6 +165,7 @@ impl MockState {
         self.after_session(read_step_by(self.session(), self.variety, self.config, flash, data))
     }
 
+    // Stays at (request_type, request, value, index): they are the Rust's parameters.
     pub fn write_control(
         self,
         request_type: u8,

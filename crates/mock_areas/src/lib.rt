@@ -56,6 +56,7 @@ impl RuleNumber for AreaError {
     }
 }
 
+// Stays a pair: document 01 has the record handed back beside the answer.
 #[derive(Clone, Copy)]
 pub struct AreaStep {
     pub answer: Result<(), AreaError>,

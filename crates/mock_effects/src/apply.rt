@@ -1,4 +1,5 @@
 // What an effect of the transaction table does to the flash, or to the buffer of a read.
+// Stays: lent buffers are parameters of their own, since a contract tells each before and after.
 ghost use Rattle.std.specs.Prelude.{◌≡◌, ◌+◌, ◌*◌, ◌/◌, ◌≤◌, length, drop, replicate};
 ghost use Rattle.promise.specs.Bytes.{front, field};
 ghost use Rattle.promise.specs.Over.{over};
@@ -52,7 +53,7 @@ fn cells_told(old: &[u8], asked: &[u8]) -> Status
     }
 }
 
-// By places, since of cells that an iterator lends through `zip` no proof knows what is left in them.
+// Stays by places: of cells that an iterator lends through `zip` no proof knows what is left in them.
 fn clear_bits(part: &mut [u8], asked: &[u8])
     requires { length asked.now ≤ length part.old }
     ensures { part.new ≡ front (programmed asked.now part.old) part.old }
@@ -85,6 +86,7 @@ fn reply(config: MockDeviceConfig, sectors: u32, kind: ReplyKind, data: &mut [u8
     requires { length «data».old ≡ reply_size kind }
     ensures { «data».new ≡ front (reply_bytes config sectors kind) «data».old }
 {
+    // Stays a `match`: each reply is other bytes.
     match kind {
         ReplyKind::FlashId => data.copy_from_slice(&config.flash_id),
         ReplyKind::FlashInfo => data.copy_from_slice(&config.flash_info(sectors)),
@@ -108,6 +110,7 @@ pub(crate) fn apply_to_flash(effect: Effect, flash: &mut [u8], data: &[u8]) -> S
     requires { EffectFits (length flash.old / sector_size) (length «data».now) effect }
     ensures { (result ≡ pending_after effect «data».now flash.old) × (flash.new ≡ flash_after effect «data».now flash.old) }
 {
+    // Stays a `match`: each effect is lent other bytes.
     match effect {
         Effect::Fill(range) => {
             erase(range, flash);
@@ -131,6 +134,7 @@ pub(crate) fn apply_to_buffer(
     requires { (length flash.now / sector_size ≤ 65536) × EffectFits (length flash.now / sector_size) (length «data».old) effect }
     ensures { «data».new ≡ buffer_after config effect flash.now «data».old }
 {
+    // Stays a `match`: each effect is lent other bytes.
     match effect {
         Effect::Supply(range) => supply(range, flash, data),
         Effect::Reply(kind) => reply(

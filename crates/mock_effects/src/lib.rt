@@ -1,4 +1,5 @@
 // A bulk call over the session alone: the table's outcome, applied.
+// Stays: lent buffers are parameters of their own, since a contract tells each before and after.
 
 #![tactic(auto)]
 
@@ -18,6 +19,7 @@ use mock_table::session::{CommandState, Session};
 use mock_table::writing::write_outcome;
 use protocol_codes::Status;
 
+// Stays a pair: document 01 has the record handed back beside the answer.
 #[derive(Clone, Copy)]
 pub struct SessionStep {
     pub answer: MockAnswer,

@@ -1,5 +1,6 @@
 // The calls over a session of the first variety that is lent. Each hands a copy of the record to the by-value step, stores what comes back, and
 // returns the answer.
+// Stays function by function: document 01's thin calls over the by-value ones.
 ghost use Rattle.std.specs.Prelude.{◌≡◌, [], length};
 ghost use Rattle.mock_effects.specs.Steps.{write_step, read_step};
 ghost use Rattle.mock_session.specs.Start.{start_step};

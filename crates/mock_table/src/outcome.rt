@@ -16,6 +16,7 @@ pub enum ReplyKind {
     Status(u32, Status),
 }
 
+// Stays an enum with `Nothing`: each table over effects has a row for it.
 #[derive(Clone, Copy)]
 pub enum Effect {
     Nothing,

@@ -15,6 +15,7 @@ use protocol_codes::{CommandCode, Direction, Status};
 fn reply_size(reply: ReplyKind) -> usize
     ensures { result ≡ reply_size reply }
 {
+    // Stays a `match`: its arms are the rows of `reply_size`.
     match reply {
         ReplyKind::FlashId => 5,
         ReplyKind::FlashInfo => 11,
@@ -42,6 +43,7 @@ impl Row {
     fn read_code(self, command: CommandBlock, actual: usize) -> Outcome
         ensures { OutcomeMeets result (code_turn self.variety self.reset command self.sectors actual) }
     {
+        // Stays a `match`: its arms are the rows of `code_turn`.
         match (command.cd_code, self.variety) {
             (CommandCode::ReadFlashId, _) => self.copy_reply(command, ReplyKind::FlashId, actual),
             (CommandCode::ReadFlashInfo, _) => {
@@ -87,7 +89,7 @@ pub fn read_outcome(session: Session, variety: Variety, sectors: usize, actual: 
         reset: session.last_reset,
         sectors,
     };
-    // A match: each of the three states holds values of its own, and closures over them would be no plainer.
+    // Stays a `match`: each state brings other values.
     match session.current_command {
         CommandState::None => row.refuse(MockTransportError::UnexpectedRead),
         CommandState::IO(command) => row.read_io(command, actual),

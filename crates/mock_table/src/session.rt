@@ -3,6 +3,7 @@ use protocol::CommandBlock;
 use protocol_codes::{ResetOpcode, Status};
 
 // The transaction.
+// Stays an enum: document 01's transaction, of which two cases have a command.
 #[derive(Clone, Copy)]
 pub enum CommandState {
     // No current command

@@ -62,6 +62,7 @@ impl Row {
     fn handle_zero_length_command(self, block_size: u16, command: CommandBlock) -> Outcome
         ensures { OutcomeMeets result (zero_length_turn self.variety block_size self.reset command self.sectors) }
     {
+        // Stays `if` by `if`: each test is a definition of its own (`is_erase`, `has_code`, `switches`).
         if is_erase(command) {
             return self.handle_erase(block_size, command);
         }
@@ -133,7 +134,7 @@ pub fn write_outcome(
         reset: session.last_reset,
         sectors,
     };
-    // A match: each of the three states holds values of its own, and closures over them would be no plainer.
+    // Stays a `match`: each state brings other values.
     match session.current_command {
         CommandState::None => row.start_command(block_size, data),
         CommandState::IO(command) => row.write_io(command, data.len()),
