@@ -3,6 +3,7 @@ use replay_lines::buffer::{behind_mut, copy, first, first_mut};
 use std::io::{Result, Write};
 
 // The writer, and what is to be written, in the first `len` bytes of a lent buffer.
+// Stays a buffer with its length: nothing here allocates.
 #[derive(Drop)]
 pub struct Output<'a, W> {
     to: W,
@@ -39,6 +40,7 @@ impl<W: Write> Write for Output<'_, W> {
     }
 }
 
+// Stays by hand: a write for each byte takes twice the time.
 fn digit(nibble: u8) -> u8 {
     match nibble {
         0..=9 => b'0' + nibble,

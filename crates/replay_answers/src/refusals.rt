@@ -4,6 +4,7 @@ use protocol::CommandBlockParseError;
 use protocol_status::failure::UsbOperationError;
 use rule_number::RuleNumber;
 
+// Stays a `match`: each refusal has values of its own.
 pub fn command_error(error: CommandBlockParseError, signature: [u8; 4]) -> Told {
     let number = error.number();
     match error {

@@ -2,6 +2,7 @@
 use std::fmt;
 
 // A number, and the first `count` of the values.
+// Stays numbers with their count: a line is told numbers (differential/LANGUAGE.md), and nothing here allocates.
 #[derive(Clone, Copy)]
 pub struct Told {
     pub number: u8,
