@@ -61,12 +61,15 @@ pub fn hex<W: Write>(out: &mut W, bytes: &[u8]) -> Result<()> {
     Ok(())
 }
 
-fn digest_step(h: u32, byte: u8) -> u32 {
-    ((h as u64 * 16777619 + byte as u64 + 1) % 4294967291) as u32
+// A digest with one more number in it.
+pub fn digest_step(h: u32, n: u32) -> u32 {
+    ((h as u64 * 16777619 + n as u64 + 1) % 4294967291) as u32
 }
 
 fn digest(bytes: &[u8]) -> u32 {
-    bytes.iter().fold(1, |h, byte| digest_step(h, *byte))
+    bytes
+        .iter()
+        .fold(1, |h, byte| digest_step(h, u32::from(*byte)))
 }
 
 // The language's BYTES: spelled out up to 64, a digest above.

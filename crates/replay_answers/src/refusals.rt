@@ -20,6 +20,6 @@ pub fn operation_error(error: UsbOperationError, signature: [u8; 4]) -> Told {
     match error {
         UsbOperationError::InvalidStatusSignature => Told::of_bytes(number, signature),
         UsbOperationError::InvalidStatusStatus(byte) => Told::of(number, &[u64::from(byte)]),
-        _ => Told::of(number, &[]),
+        _ => Told::numbered(error),
     }
 }

@@ -1,4 +1,5 @@
 // What a line is told: a number with its values.
+use rule_number::RuleNumber;
 use std::fmt;
 
 // A number, and the first `count` of the values.
@@ -23,6 +24,11 @@ impl Told {
         }
         told.count = values.len().min(9);
         told
+    }
+
+    // The number of an answer, with no values.
+    pub fn numbered<A: RuleNumber>(answer: A) -> Told {
+        Told::of(answer.number(), &[])
     }
 
     // With these four bytes as its values.
