@@ -34,12 +34,8 @@ fn is_kind_or_check(at: usize) -> bool {
 
 // Whether all bytes are as before but kinds and checks, which are printed.
 fn is_as_before(old: &[u8; 10340], new: &[u8; 10340]) -> bool {
-    for (at, (before, after)) in old.iter().zip(new).enumerate() {
-        if before != after && !is_kind_or_check(at) {
-            return false;
-        }
-    }
-    true
+    old.iter().zip(new).enumerate().all(|(at, (before, after))| before == after
+        || is_kind_or_check(at))
 }
 
 fn print_convert<W: Write>(to: &mut W, convert: Convert) -> Result<()> {
