@@ -59,6 +59,7 @@ fn say_unread<E: Write>(errors: &mut E, blocks: u64) {
 
 impl<R: Read + Drop, W: Write + Drop, E: Write + Drop> Run<R, W, E> {
     // Whether the chunk's first bytes were written; where they were not, what to do is said behind the reason.
+    // Stays beside that of recheck: each program says its own text.
     fn write_first(&mut self, used: usize) -> bool {
         let used = within(used, &self.chunk);
         let output = write_out(

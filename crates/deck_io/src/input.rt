@@ -11,6 +11,7 @@ use std::io::{ErrorKind, Read, Result, Write};
 const BLOCK: usize = 512;
 
 // How an input ended: it is over, or could not be read on.
+// Stays an enum of two: after a failed read the whole blocks before it still count.
 #[derive(Clone, Copy, Debug, PartialEq, Eq)]
 pub enum End {
     Over,
@@ -25,6 +26,7 @@ pub struct Input {
 }
 
 // A read that a signal interrupts is made again, though not for ever.
+// Stays beside `write_some` of the output: the two have two traits.
 fn read_some<R: Read>(from: &mut R, rest: &mut [u8]) -> Result<usize>
     ensures { ReadsAtMost result rest.new }
 {

@@ -13,6 +13,7 @@ use std::io::{self, ErrorKind, Write};
 pub struct Shut(pub usize);
 
 // A write that a signal interrupts is made again, though not for ever.
+// Stays beside `read_some` of the input: the two have two traits.
 fn write_some<W: Write>(to: &mut W, rest: &[u8]) -> io::Result<usize>
     ensures { WritesAtMost result rest.now }
 {

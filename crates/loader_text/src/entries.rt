@@ -24,6 +24,7 @@ pub(crate) fn print_entries<W: Write>(to: &mut W, file: &[u8]) -> Result<()> {
         "list     entry       place      length    delay ms  name"
     )?;
     let mut walk = Walk::new();
+    // Stays bounded: a proved loop has to end.
     for _ in 0..MOST {
         let step = walk.step(file);
         let Ok(Some(at)) = step.answer else {

@@ -46,6 +46,8 @@ impl Display for Name {
     }
 }
 
+// The name of a walk's list.
+// Stays a number: a walk's list is one.
 pub(crate) fn list_name(list: u8) -> &'static str {
     match list {
         0 => "471",

@@ -20,6 +20,7 @@ struct Run<R: Drop, W: Drop, E: Drop> {
 }
 
 // At block 1 the deck may be one of today: that is refused there, and not at a later block.
+// Stays beside `say_short`: it has other words in three places.
 fn say_bad_check<E: Write>(errors: &mut E, number: u64) {
     let before = if number == 1 {
         "nothing was written; a deck of today needs no recheck; else"
@@ -34,6 +35,7 @@ fn say_bad_check<E: Write>(errors: &mut E, number: u64) {
     );
 }
 
+// Stays beside `say_bad_check`: it has other words in three places.
 fn say_short<E: Write>(errors: &mut E, number: u64) {
     let before = if number == 1 {
         "nothing was written; a file of lines is no deck (tools/make-deck makes one of it); else"
@@ -60,6 +62,7 @@ fn say_unread<E: Write>(errors: &mut E, rechecked: u64) {
 
 impl<R: Read + Drop, W: Write + Drop, E: Write + Drop> Run<R, W, E> {
     // Whether the chunk's first bytes were written; where they were not, what to do is said behind the reason.
+    // Stays beside that of convert: each program says its own text.
     fn write_first(&mut self, bytes: usize) -> bool {
         let used = within(bytes, &self.chunk);
         let output = write_out(

@@ -5,6 +5,7 @@ use replay_lines::buffer::{copy, first};
 use std::io::{Result, Write};
 
 // Bytes that stand behind the values.
+// Stays an enum with `Nothing`: it is one of the five rows of `print_tail`.
 #[derive(Clone, Copy)]
 pub enum Tail {
     Nothing,
@@ -19,6 +20,7 @@ pub enum Tail {
 }
 
 // The bytes of a small tail stand beside it. A run has steps, and a call with OUTLEN and FILL the room.
+// Stays a buffer beside its length: nothing here allocates.
 #[derive(Clone, Copy)]
 pub struct Answer {
     pub told: Told,

@@ -3,6 +3,7 @@ use replay_lines::buffer::{behind_mut, copy, first, first_mut};
 use std::io::{Result, Write};
 
 // The writer, and what is to be written, in the first `len` bytes of a lent buffer.
+// Stays a buffer with its length: nothing here allocates.
 #[derive(Drop)]
 pub struct Output<'a, W> {
     to: W,
@@ -39,6 +40,7 @@ impl<W: Write> Write for Output<'_, W> {
     }
 }
 
+// Stays by hand: a write for each byte takes twice the time.
 fn digit(nibble: u8) -> u8 {
     match nibble {
         0..=9 => b'0' + nibble,
@@ -59,12 +61,15 @@ pub fn hex<W: Write>(out: &mut W, bytes: &[u8]) -> Result<()> {
     Ok(())
 }
 
-fn digest_step(h: u32, byte: u8) -> u32 {
-    ((h as u64 * 16777619 + byte as u64 + 1) % 4294967291) as u32
+// A digest with one more number in it.
+pub fn digest_step(h: u32, n: u32) -> u32 {
+    ((h as u64 * 16777619 + n as u64 + 1) % 4294967291) as u32
 }
 
 fn digest(bytes: &[u8]) -> u32 {
-    bytes.iter().fold(1, |h, byte| digest_step(h, *byte))
+    bytes
+        .iter()
+        .fold(1, |h, byte| digest_step(h, u32::from(*byte)))
 }
 
 // The language's BYTES: spelled out up to 64, a digest above.

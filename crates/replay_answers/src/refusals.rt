@@ -4,6 +4,7 @@ use protocol::CommandBlockParseError;
 use protocol_status::failure::UsbOperationError;
 use rule_number::RuleNumber;
 
+// Stays a `match`: each refusal has values of its own.
 pub fn command_error(error: CommandBlockParseError, signature: [u8; 4]) -> Told {
     let number = error.number();
     match error {
@@ -19,6 +20,6 @@ pub fn operation_error(error: UsbOperationError, signature: [u8; 4]) -> Told {
     match error {
         UsbOperationError::InvalidStatusSignature => Told::of_bytes(number, signature),
         UsbOperationError::InvalidStatusStatus(byte) => Told::of(number, &[u64::from(byte)]),
-        _ => Told::of(number, &[]),
+        _ => Told::numbered(error),
     }
 }

@@ -1,7 +1,9 @@
 // What a line is told: a number with its values.
+use rule_number::RuleNumber;
 use std::fmt;
 
 // A number, and the first `count` of the values.
+// Stays numbers with their count: a line is told numbers (differential/LANGUAGE.md), and nothing here allocates.
 #[derive(Clone, Copy)]
 pub struct Told {
     pub number: u8,
@@ -22,6 +24,11 @@ impl Told {
         }
         told.count = values.len().min(9);
         told
+    }
+
+    // The number of an answer, with no values.
+    pub fn numbered<A: RuleNumber>(answer: A) -> Told {
+        Told::of(answer.number(), &[])
     }
 
     // With these four bytes as its values.

@@ -12,6 +12,7 @@ pub fn storage(index: StorageIndex) -> Told {
 }
 
 // NAMED INDEX. Named are 0 to 12 only; any number may be unknown.
+// Stays apart from `From`: that reads an index from one number, and here it is two.
 pub fn read_storage(tokens: &mut Tokens) -> Option<StorageIndex> {
     let named = tokens.at_most(1)?;
     let n = tokens.u8()?;

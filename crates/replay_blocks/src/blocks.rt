@@ -35,6 +35,7 @@ pub(crate) fn read_command(bytes: &[u8]) -> Told {
     }
 }
 
+// Stays a `match`: each refusal has values of its own.
 fn status_error(error: CommandStatusParseError, signature: [u8; 4]) -> Told {
     let number = error.number();
     match error {

@@ -5,6 +5,7 @@ use replay_lines::names::OperationName;
 use replay_lines::tokens::Tokens;
 
 // The block of OP TAG ARGS.
+// Stays a `match`: each operation reads its own tokens.
 pub(crate) fn command(tokens: &mut Tokens) -> Option<CommandBlock> {
     let name = tokens.operation()?;
     let tag = tokens.u32()?;

@@ -19,6 +19,7 @@ use replay_lines::tokens::Tokens;
 use replay_replies::{numbers, replies};
 use std::io::{Result, Write};
 
+// Stays a `match`: each call is told values of its own.
 fn on_number(call: Call, n: u8) -> Option<Told> {
     match call {
         Call::Direction => Some(numbers::direction(n)),
@@ -45,6 +46,8 @@ fn on_bytes(call: Call, bytes: &[u8]) -> Option<Answer> {
 }
 
 // `cwr`, `cnv`, `swr`
+// Stays a `match`: each call reads its own tokens.
+// Stays with these parameters: the buffers are lent by main.
 fn write(call: Call, mut tokens: Tokens, data: &mut [u8], room: &mut [u8]) -> Option<Answer> {
     let len = tokens.room(room)?;
     let room = first_mut(len, room);
@@ -69,6 +72,7 @@ fn write(call: Call, mut tokens: Tokens, data: &mut [u8], room: &mut [u8]) -> Op
 }
 
 // The line read whole, and its answer.
+// Stays a `match`: each call reads its own tokens.
 fn answer(line: &[u8], data: &mut [u8], room: &mut [u8]) -> Option<Answer> {
     let mut tokens = Tokens::new(line);
     let call = tokens.call()?;

@@ -6,6 +6,7 @@ use replay_lines::tokens::Tokens;
 
 pub(crate) const BLOCK: usize = 512;
 
+// Stays by hand: a digit that leads past `most` begins anew.
 fn with_digit(number: u32, digit: u8, most: u32) -> u32 {
     number
         .checked_mul(10)

@@ -70,6 +70,9 @@ impl<'a> Table<'a> {
     }
 }
 
+// A line's answer.
+// Stays a `match`: each call reads its own tokens.
+// Stays with these parameters: the buffers are lent by main.
 fn answer<W: Write>(
     out: &mut W,
     line: &[u8],

@@ -22,6 +22,7 @@ fn transfer<W: Write>(out: &mut W, transfer: SectorTransfer) -> Result<()> {
 }
 
 // Bytes for chip info, flash id, flash info and capability, a count for sectors, and nothing else.
+// Stays a `match`: each reply has bytes of its own beside it.
 fn reply<W: Write>(out: &mut W, reply: UsbReply, beside: Beside) -> Result<()> {
     match reply {
         UsbReply::ChipInfo => hex(out, &beside.chip_info.0),

@@ -14,6 +14,7 @@ use replay_lines::tokens::Tokens;
 use rule_number::RuleNumber;
 
 // A device's record, and the length of its flash.
+// Stays a length beside a buffer: nothing here allocates.
 #[derive(Clone, Copy)]
 pub struct Device {
     pub state: MockState,
@@ -28,6 +29,7 @@ pub struct Devices<'a> {
     pub store: &'a mut [u8],
 }
 
+// Stays a `match`: each refusal has values of its own.
 pub fn refusal(error: MockTransportError, signature: [u8; 4]) -> Told {
     let number = error.number();
     match error {
@@ -204,6 +206,9 @@ impl Devices<'_> {
         Some(Answer::from(last_reset(state.last_reset())))
     }
 
+    // What a call on the device is told.
+    // Stays a `match`: each call reads its own tokens.
+    // Stays with these parameters: the buffers are lent by main.
     pub fn answer(
         &mut self,
         call: Call,

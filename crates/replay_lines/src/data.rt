@@ -16,6 +16,7 @@ pub enum Form {
     Seeded,
 }
 
+// Stays by hand: the language has lower-case digits alone.
 fn nibble(digit: u8) -> Option<u8> {
     match digit {
         b'0'..=b'9' => Some(digit - b'0'),
@@ -42,6 +43,7 @@ fn seeded(part: &mut [u8], seed: u32) {
 }
 
 impl Form {
+    // Stays `of`: the error of a `TryFrom` would say no more than `None`.
     pub fn of(letter: u8) -> Option<Form> {
         match letter {
             b'f' => Some(Form::Same),
@@ -98,6 +100,7 @@ impl Tokens<'_> {
     }
 
     // DATA of at most `most` bytes, or spelled out, to the front of a lent buffer: how many they are, with those that it has no room for.
+    // Stays forms taken one by one: each reads its own tokens.
     pub fn data(&mut self, most: usize, into: &mut [u8]) -> Option<usize> {
         self.gap()?;
         let letter = self.byte()?;

@@ -3,6 +3,7 @@ use crate::buffer::{behind, behind_mut, copy, first};
 use std::io::Read;
 
 // The reader, and the block that was read last, of which what stands from `start` to `end` is not cut up yet.
+// Stays a buffer with its places: nothing here allocates.
 #[derive(Drop)]
 pub struct Input<'a, R> {
     from: R,

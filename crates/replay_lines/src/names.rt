@@ -69,6 +69,7 @@ pub enum OperationName {
 
 impl Call {
     // On a number, a block or a reply, or of those on a thing that stays.
+    // Stays `of`: the error of a `TryFrom` would say no more than `None`.
     fn of(letters: &[u8; 3]) -> Option<Call> {
         match letters {
             b"dir" => Some(Call::Direction),
@@ -120,6 +121,7 @@ impl Call {
 }
 
 impl OperationName {
+    // Stays `of`, as that of calls.
     fn of(letters: &[u8; 3]) -> Option<OperationName> {
         match letters {
             b"chp" => Some(OperationName::ChipInfo),

@@ -8,6 +8,7 @@ pub struct Tokens<'a> {
 }
 
 // One more digit, where the number still fits.
+// Stays by hand: `parse` reads text, and a line is bytes.
 fn with_digit(number: u64, digit: u8) -> Option<u64> {
     number
         .checked_mul(10)?

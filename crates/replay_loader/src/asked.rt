@@ -21,6 +21,7 @@ pub(crate) enum Asked {
 }
 
 // The line read whole, its DATA to a lent buffer.
+// Stays a `match`: each call reads its own tokens.
 pub(crate) fn ask(line: &[u8], into: &mut [u8]) -> Option<Asked> {
     let mut tokens = Tokens::new(line);
     let asked = match &tokens.name()? {

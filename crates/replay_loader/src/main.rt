@@ -21,6 +21,7 @@ use std::io::{Result, Write};
 const NO_TAG: [u8; 4] = [0, 0, 0, 0];
 
 // The current file: the first `len` bytes of a lent buffer.
+// Stays a buffer with its length: nothing here allocates.
 #[derive(Drop)]
 struct File<'a> {
     buffer: &'a mut [u8],
@@ -93,6 +94,8 @@ fn print_data<W: Write>(out: &mut W, part: &[u8]) -> Result<()> {
 }
 
 // The answer to what is asked, with the DATA that stands in the buffer.
+// Stays a `match`: each case takes arguments of its own.
+// Stays with these parameters: the buffers are lent by main.
 fn answer<W: Write>(out: &mut W, asked: Asked, given: &[u8], file: &mut File) -> Result<()> {
     match asked {
         Asked::Time(len) => read_time(out, first(len, given)),

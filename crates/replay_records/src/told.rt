@@ -6,6 +6,7 @@ use replay_answers::told::Told;
 use rule_number::RuleNumber;
 
 // Behind the number stand the bytes that there are, the tag, or the list and the entry.
+// Stays a `match`: each refusal has values of its own.
 fn refused(error: RkBootError, tag: [u8; 4]) -> Told {
     let number = error.number();
     match error {

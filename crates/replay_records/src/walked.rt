@@ -60,6 +60,7 @@ impl Walked {
             digest: 1,
             step: start.step(file),
         };
+        // Stays bounded: a proved loop has to end.
         for _ in 0..LONGEST {
             let WalkStep {
                 answer,

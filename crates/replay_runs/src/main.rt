@@ -67,6 +67,8 @@ fn print<W: Write>(
     print_world(out, call, world)
 }
 
+// A line's answer with its line feed.
+// Stays with these parameters: the buffers are lent by main.
 fn answer_line<W: Write>(
     out: &mut W,
     line: &[u8],

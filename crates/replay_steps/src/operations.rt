@@ -25,6 +25,7 @@ pub struct Operations<'a> {
 }
 
 // The record of an operation without sector data, from its ARGS.
+// Stays a `match`: each operation reads its own tokens.
 fn plain(name: OperationName, tag: u32, tokens: &mut Tokens) -> Option<UsbOperation> {
     match name {
         OperationName::ChipInfo => Some(chip_info(tag)),
@@ -51,6 +52,7 @@ fn transfer_value(transfer: SectorTransfer) -> Told {
 }
 
 // What a finished operation tells: 0 with its value.
+// Stays a `match`: each reply has a value of its own.
 pub fn reply_value(reply: UsbReply, beside: Beside) -> Answer {
     let none = Told::of(0, &[]);
     match reply {
@@ -84,6 +86,7 @@ fn step_refused(error: StepError, beside: Beside) -> Told {
 
 impl Operations<'_> {
     // FIRST DATA of a sector operation.
+    // Stays with these parameters: the buffers are lent by main.
     fn open_sectors(
         &mut self,
         name: OperationName,

@@ -65,6 +65,7 @@ trait Steps {
 
     // The step after the finish must be the finish again: a transfer there is one too many.
     fn to_the_end(&mut self, list: &mut List) -> Result<(), u8> {
+        // Stays bounded: a proved loop has to end.
         for _ in 0..TURNS {
             if !self.step(list)? {
                 break;
@@ -121,6 +122,7 @@ impl Cut<'_> {
     // A part of this size, cut down to what is left of the image, is handed over until all of it is taken.
     fn hand_over(&mut self, size: usize, list: &mut List) -> Result<(), u8> {
         let end = self.taken.wrapping_add(size).min(self.image.len());
+        // Stays bounded: a proved loop has to end.
         for _ in 0..TURNS {
             self.part(end, list)?;
             if self.taken >= end {
@@ -163,6 +165,7 @@ fn list_whole(area: u16, image: &[u8], list: &mut List) -> Result<(), u8> {
 }
 
 // `all`
+// Stays with these parameters: the buffers are lent by main.
 pub(crate) fn all(mut tokens: Tokens, data: &mut [u8], text: &mut [u8]) -> Option<Answer> {
     let area = tokens.u16()?;
     let len = tokens.data(LISTED, data)?;
@@ -180,6 +183,7 @@ fn list_cut(area: u16, sizes: Sizes, image: &[u8], list: &mut List) -> Result<()
         image,
         taken: 0,
     };
+    // Stays bounded: a proved loop has to end.
     for _ in 0..TURNS {
         for size in sizes {
             cut.hand_over(size, list)?;

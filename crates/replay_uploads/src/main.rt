@@ -14,6 +14,8 @@ use replay_steps::uploads::Uploads;
 use std::io::{Result, Write};
 
 // A list touches no current upload.
+// Stays a `match`: each call reads its own tokens.
+// Stays with these parameters: the buffers are lent by main.
 fn answer(line: &[u8], uploads: &mut Uploads, data: &mut [u8], room: &mut [u8]) -> Option<Answer> {
     let mut tokens = Tokens::new(line);
     match tokens.call()? {

@@ -16,6 +16,8 @@ pub struct World<'a> {
 
 impl World<'_> {
     // What a line's call is told, where the line is of these kinds and about a thing that is there.
+    // Stays a `match`: each call reads its own tokens.
+    // Stays with these parameters: the buffers are lent by main.
     pub fn answer(
         &mut self,
         call: Call,

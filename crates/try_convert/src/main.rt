@@ -34,12 +34,8 @@ fn is_kind_or_check(at: usize) -> bool {
 
 // Whether all bytes are as before but kinds and checks, which are printed.
 fn is_as_before(old: &[u8; 10340], new: &[u8; 10340]) -> bool {
-    for (at, (before, after)) in old.iter().zip(new).enumerate() {
-        if before != after && !is_kind_or_check(at) {
-            return false;
-        }
-    }
-    true
+    old.iter().zip(new).enumerate().all(|(at, (before, after))| before == after
+        || is_kind_or_check(at))
 }
 
 fn print_convert<W: Write>(to: &mut W, convert: Convert) -> Result<()> {
@@ -51,6 +47,7 @@ fn print_convert<W: Write>(to: &mut W, convert: Convert) -> Result<()> {
 }
 
 // What a deck came to.
+// Stays with these parameters: the writer and the buffers are lent by main.
 fn show<W: Write>(
     to: &mut W,
     old: &[u8; 10340],
@@ -76,6 +73,7 @@ fn convert_next(convert: Convert, deck: &mut [u8], from: usize, size: usize) -> 
 }
 
 // The `length` bytes that start here, behind this record, in chunks of `size` bytes.
+// Stays with its length and its size: they are the case.
 fn convert_part(
     convert: Convert,
     deck: &mut [u8],
@@ -88,6 +86,7 @@ fn convert_part(
     let n = within(length, rest);
     let mut next = convert;
     let mut from = 0usize;
+    // Stays bounded: a proved loop has to end, and the turns behind the last chunk are tried too.
     for _ in 0..TURNS {
         next = convert_next(next, &mut rest[..n], from, size);
         from = from.wrapping_add(size);
@@ -189,6 +188,7 @@ fn try_all<W: Write>(to: &mut W, old: [u8; 10340]) -> Result<()> {
     Ok(())
 }
 
+// Stays beside that of try_recheck: each program is whole.
 fn main(rt: HostRuntime) -> Result<()> {
     let mut old = [0; 10340];
     let n = read_full(&mut rt.stdin(), &mut old)?;

@@ -61,12 +61,14 @@ impl Dealing {
 }
 
 // The first `length` bytes of the input as a deck of its own, in chunks of `size` bytes, and empty ones then.
+// Stays with its length and its size: they are the case.
 fn deal_first<W: Write>(to: &mut W, input: &[u8], length: usize, size: usize) -> Result<()> {
     writeln!(to, "{length} bytes in chunks of {size}")?;
     let mut dealing = Dealing::new();
     let mut lines = [0; 2048];
     let n = within(length, input);
     let mut rest = &input[..n];
+    // Stays bounded: a proved loop has to end, and the turns behind the last chunk are tried too.
     for _ in 0..TURNS {
         let (chunk, behind) = rest.split_at(within(size, rest));
         dealing.deal(to, chunk, &mut lines)?;

@@ -40,6 +40,7 @@ fn put_at(file: &mut [u8], at: usize, new: &[u8]) {
 }
 
 // The file's first bytes, with these in it.
+// Stays with its place and its count: they are the case.
 fn try_file<W: Write>(
     to: &mut W,
     file: &[u8; 1182],

@@ -40,6 +40,7 @@ enum Call {
 }
 
 // The head that stands, and how many sectors of the flash it has.
+// Stays a length beside a buffer: nothing here allocates.
 #[derive(Clone, Copy)]
 struct Head {
     device: MockState,
@@ -48,6 +49,8 @@ struct Head {
 
 impl Call {
     // The line read whole.
+    // Stays a `match`: each call reads its own tokens.
+    // Stays `of`: the error of a `TryFrom` would say no more than `None`.
     fn of(line: &[u8]) -> Option<Call> {
         let mut tokens = Tokens::new(line);
         let call = match tokens.word() {
@@ -86,6 +89,7 @@ impl Call {
         }
     }
 
+    // Stays a `match`: each case takes arguments of its own.
     fn operation(self, tag: u32) -> UsbOperation {
         match self {
             Call::Switch(number) => switch_storage(tag, StorageIndex::from(number)),
@@ -164,6 +168,7 @@ impl Head {
     }
 
     // A block size of 0 is told, and the head is there all the same.
+    // Stays with these parameters: the writer and the buffers are lent by main.
     fn begin<W: Write>(&mut self, to: &mut W, call: Call, flash: &mut [u8; 16384]) -> Result<()> {
         let Call::Head {
             sectors,

@@ -46,6 +46,7 @@ fn print_recheck<W: Write>(to: &mut W, recheck: Recheck) -> Result<()> {
 }
 
 // What a deck came to.
+// Stays with these parameters: the writer and the buffers are lent by main.
 fn show<W: Write>(to: &mut W, old: &[u8; 9316], new: &[u8; 9316], step: RecheckStep) -> Result<()> {
     print_checks(to, new, step.bytes)?;
     let rest = if is_as_before(old, new, step.bytes) {
@@ -70,9 +71,11 @@ fn recheck_next(step: RecheckStep, deck: &mut [u8], size: usize) -> RecheckStep 
 }
 
 // The deck's first `length` bytes behind this record, in chunks of `size` bytes.
+// Stays with its length and its size: they are the case.
 fn recheck_first(recheck: Recheck, deck: &mut [u8], length: usize, size: usize) -> RecheckStep {
     let n = within(length, deck);
     let mut step = RecheckStep { bytes: 0, recheck };
+    // Stays bounded: a proved loop has to end, and the turns behind the last chunk are tried too.
     for _ in 0..TURNS {
         step = recheck_next(step, &mut deck[..n], size);
     }
@@ -190,6 +193,7 @@ fn try_all<W: Write>(to: &mut W, old: [u8; 9316]) -> Result<()> {
     Ok(())
 }
 
+// Stays beside that of try_convert: each program is whole.
 fn main(rt: HostRuntime) -> Result<()> {
     let mut old = [0; 9316];
     let n = read_full(&mut rt.stdin(), &mut old)?;

@@ -90,6 +90,7 @@ fn show<W: Write>(to: &mut W, session: Session) -> Result<()> {
 }
 
 // A bulk write, with its line.
+// Stays with these parameters: the writer and the buffers are lent by main.
 fn send<W: Write>(
     to: &mut W,
     name: &str,

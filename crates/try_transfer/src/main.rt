@@ -50,6 +50,7 @@ fn print_reply<W: Write>(to: &mut W, reply: UsbReply) -> Result<()> {
 
 // Step after step, with the status where one asks for that; a host would send the command and the data here. A status of at most 13 bytes is always
 // taken.
+// Stays with these parameters: the writer and the buffers are lent by main.
 fn carry_out<W: Write>(
     to: &mut W,
     operation: UsbOperation,
@@ -58,6 +59,7 @@ fn carry_out<W: Write>(
 ) -> Result<()> {
     let mut next = operation;
     let mut out = [0; 31];
+    // Stays bounded: a proved loop has to end.
     for _ in 0..STEPS {
         let done = next.step(sectors, &mut out);
         next = done.next;
