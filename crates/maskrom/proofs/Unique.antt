@@ -33,7 +33,7 @@ use Rattle.maskrom.specs.declared.UploadError.TheVariants as upload_error
 use Rattle.maskrom.specs.declared.ImageTooLong.{ImageTooLong}
 
 -- number and values say which answer it was
-part_of : Told Handed → (Result PartStep PartError)
+part_of : Told Handed → Result PartStep PartError
 part_of (given (took n)) = Ok (part.Taken n)
 part_of (given (filled n c)) = Ok (part.WriteControl n c)
 part_of (refused n vs) = pick (eqb n too_short) (Err part_error.OutputTooShort) (pick (eqb n closed_already) (Err part_error.AlreadyClosed) (Err part_error.ImageTooLong))
@@ -46,7 +46,7 @@ part_back (Err part_error.OutputTooShort) = refl
 part_back (Err part_error.AlreadyClosed) = refl
 part_back (Err part_error.ImageTooLong) = refl
 
-step_of : Told Asks → (Result UploadStep UploadError)
+step_of : Told Asks → Result UploadStep UploadError
 step_of (given (writes c)) = Ok (upload.WriteControl c)
 step_of (given finish) = Ok upload.Finished
 step_of (refused n vs) = pick (eqb n too_short) (Err upload_error.OutputTooShort) (Err upload_error.ImageDiffers)
@@ -58,7 +58,7 @@ step_back (Ok upload.Finished) = refl
 step_back (Err upload_error.OutputTooShort) = refl
 step_back (Err upload_error.ImageDiffers) = refl
 
-start_of : Told Unit → (Result Unit ImageTooLong)
+start_of : Told Unit → Result Unit ImageTooLong
 start_of (given u) = Ok tt
 start_of (refused n vs) = Err (record {})
 

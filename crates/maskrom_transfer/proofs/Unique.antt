@@ -24,7 +24,7 @@ same told told' back back' self old new new' step m m' = record {
 }
 
 -- number and values say which answer it was
-sent_of : Told Moved → (Result Moved OutputTooShort)
+sent_of : Told Moved → Result Moved OutputTooShort
 sent_of (given m) = Ok m
 sent_of (refused n vs) = Err (record {})
 

@@ -19,7 +19,7 @@ use Rattle.run_operation.specs.declared.RunError.{RunError}
 use Rattle.std.specs.declared.result.Result.TheVariants.{Ok, Err}
 use Rattle.run_operation.specs.declared.RunError.TheVariants as run_error
 
-abbrev answer_for : End Reply → (Result UsbReply RunError)
+abbrev answer_for : End Reply → Result UsbReply RunError
 answer_for (tells told) = run_ended (stop_for told)
 answer_for out_of_steps = (Err run_error.OutOfSteps)
 
