@@ -37,10 +37,7 @@ pub struct Dealt {
 fn by_number<T: Drop, E: RuleNumber>(answer: Result<T, E>) -> Result<T, RefusalNumber>
     ensures { result ≡ by_number E.rule_number answer }
 {
-    match answer {
-        Ok(value) => Ok(value),
-        Err(error) => Err(RefusalNumber(error.number())),
-    }
+    answer.map_err(|error| RefusalNumber(error.number()))
 }
 
 // An upload has no value.

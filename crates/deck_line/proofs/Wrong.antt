@@ -21,7 +21,7 @@ use Rattle.deck.specs.declared.verdict.RefusalNumber.{RefusalNumber}
 use Rattle.std.specs.declared.result.Result.TheVariants.{Ok, Err}
 
 -- what `line_of` promises
-abbrev Printed : Line → ℕ → (Result UsbReply RefusalNumber) → Beside → Type 0
+abbrev Printed : Line → ℕ → Result UsbReply RefusalNumber → Beside → Type 0
 Printed r n verdict beside = r ≡ line (line_text n (verdict_told verdict beside))
 
 -- chip info that begins with AB
