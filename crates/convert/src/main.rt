@@ -8,6 +8,7 @@ use deck_io::input::{End, fill, usable_bytes};
 use deck_io::output::write_out;
 use deck_io::within;
 use std::io::{Read, Write};
+use std::ops::ControlFlow;
 
 const BLOCK: usize = 512;
 
@@ -58,9 +59,9 @@ fn say_unread<E: Write>(errors: &mut E, blocks: u64) {
 }
 
 impl<R: Read + Drop, W: Write + Drop, E: Write + Drop> Run<R, W, E> {
-    // Whether the chunk's first bytes were written; where they were not, what to do is said behind the reason.
+    // Writes the chunk's first bytes; where they were not written, what to do is said behind the reason.
     // Stays beside that of recheck: each program says its own text.
-    fn write_first(&mut self, used: usize) -> bool {
+    fn write_first(&mut self, used: usize) -> ControlFlow<()> {
         let used = within(used, &self.chunk);
         let output = write_out(
             &mut self.to,
@@ -73,21 +74,22 @@ impl<R: Read + Drop, W: Write + Drop, E: Write + Drop> Run<R, W, E> {
                 &mut self.errors,
                 "convert: not every block could be written; run it again with an output that takes them",
             );
+            return ControlFlow::Break(());
         }
-        output.is_ok()
+        ControlFlow::Continue(())
     }
 
-    // Whether there may be more of the deck. Where there is none, standard error says how it ended.
-    fn goes_on(&mut self, end: Option<End>, rest: usize) -> bool {
+    // Goes on where there may be more of the deck. Where there is none, standard error says how it ended.
+    fn goes_on(&mut self, end: Option<End>, rest: usize) -> ControlFlow<()> {
         match end {
-            None => {}
+            None => return ControlFlow::Continue(()),
             Some(End::Failed) => say_unread(&mut self.errors, self.blocks),
             Some(End::Over) => say_done(&mut self.errors, self.convert, rest),
         }
-        end.is_none()
+        ControlFlow::Break(())
     }
 
-    fn convert_once(&mut self) -> bool {
+    fn convert_once(&mut self) -> ControlFlow<()> {
         let input = fill(
             &mut self.from,
             &mut self.errors,
@@ -97,7 +99,8 @@ impl<R: Read + Drop, W: Write + Drop, E: Write + Drop> Run<R, W, E> {
         let used = within(usable_bytes(input), &self.chunk);
         self.convert = self.convert.convert_chunk(&mut self.chunk[..used]);
         self.blocks = self.blocks.wrapping_add((used / BLOCK) as u64);
-        self.write_first(used) && self.goes_on(input.end, used % BLOCK)
+        self.write_first(used)?;
+        self.goes_on(input.end, used % BLOCK)
     }
 }
 
@@ -112,7 +115,7 @@ fn main(rt: HostRuntime) {
         blocks: 0,
     };
     for _ in 0..u64::MAX {
-        if !run.convert_once() {
+        if run.convert_once().is_break() {
             return;
         }
     }

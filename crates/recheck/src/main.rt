@@ -8,6 +8,7 @@ use deck_io::output::write_out;
 use deck_io::within;
 use deck_recheck::{Recheck, Stop};
 use std::io::{Read, Write};
+use std::ops::ControlFlow;
 
 // A deck on its way, chunk by chunk.
 #[derive(Drop)]
@@ -61,9 +62,9 @@ fn say_unread<E: Write>(errors: &mut E, rechecked: u64) {
 }
 
 impl<R: Read + Drop, W: Write + Drop, E: Write + Drop> Run<R, W, E> {
-    // Whether the chunk's first bytes were written; where they were not, what to do is said behind the reason.
+    // Writes the chunk's first bytes; where they were not written, what to do is said behind the reason.
     // Stays beside that of convert: each program says its own text.
-    fn write_first(&mut self, bytes: usize) -> bool {
+    fn write_first(&mut self, bytes: usize) -> ControlFlow<()> {
         let used = within(bytes, &self.chunk);
         let output = write_out(
             &mut self.to,
@@ -76,32 +77,35 @@ impl<R: Read + Drop, W: Write + Drop, E: Write + Drop> Run<R, W, E> {
                 &mut self.errors,
                 "recheck: not every block could be written; run it again with an output that takes them",
             );
+            return ControlFlow::Break(());
         }
-        output.is_ok()
+        ControlFlow::Continue(())
     }
 
-    // Whether there may be more of the deck. Where it ends before its end, standard error says why.
-    fn goes_on(&mut self, end: Option<End>) -> bool {
+    // Goes on where there may be more of the deck. Where it ends before its end, standard error says why.
+    fn goes_on(&mut self, end: Option<End>) -> ControlFlow<()> {
         let number = self.recheck.number;
         match self.recheck.stop {
             Some(Stop::BadCheck) => {
                 say_bad_check(&mut self.errors, number);
-                false
+                ControlFlow::Break(())
             }
             Some(Stop::Short) => {
                 say_short(&mut self.errors, number);
-                false
+                ControlFlow::Break(())
             }
-            None => {
-                if end == Some(End::Failed) {
+            None => match end {
+                Some(End::Failed) => {
                     say_unread(&mut self.errors, number);
+                    ControlFlow::Break(())
                 }
-                end.is_none()
-            }
+                Some(End::Over) => ControlFlow::Break(()),
+                None => ControlFlow::Continue(()),
+            },
         }
     }
 
-    fn recheck_once(&mut self) -> bool {
+    fn recheck_once(&mut self) -> ControlFlow<()> {
         let input = fill(
             &mut self.from,
             &mut self.errors,
@@ -111,7 +115,8 @@ impl<R: Read + Drop, W: Write + Drop, E: Write + Drop> Run<R, W, E> {
         let used = within(usable_bytes(input), &self.chunk);
         let step = self.recheck.recheck_chunk(&mut self.chunk[..used]);
         self.recheck = step.recheck;
-        self.write_first(step.bytes) && self.goes_on(input.end)
+        self.write_first(step.bytes)?;
+        self.goes_on(input.end)
     }
 }
 
@@ -125,7 +130,7 @@ fn main(rt: HostRuntime) {
         recheck: Recheck::new(),
     };
     for _ in 0..u64::MAX {
-        if !run.recheck_once() {
+        if run.recheck_once().is_break() {
             return;
         }
     }

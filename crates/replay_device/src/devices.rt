@@ -56,7 +56,7 @@ pub fn refusal(error: MockTransportError, signature: [u8; 4]) -> Told {
             told.behind(number, u64::from(told.number))
         }
         MockTransportError::FlashSize(n) => Told::of(number, &[n as u64]),
-        _ => Told::of(number, &[]),
+        _ => Told::numbered(error),
     }
 }
 

@@ -3,6 +3,7 @@ use crate::shown::walk;
 use crate::told::came;
 use loader_records::entry::RkBootEntry;
 use loader_walk::walk::{EntryPlace, Walk, WalkStep};
+use replay_answers::out::digest_step;
 use std::io::{Result, Write};
 
 // three lists of 255 entries, and the step behind them
@@ -14,10 +15,6 @@ struct Walked {
     found: u32,
     digest: u32,
     step: WalkStep,
-}
-
-fn with(h: u32, n: u32) -> u32 {
-    ((h as u64 * 16777619 + n as u64 + 1) % 4294967291) as u32
 }
 
 fn low(n: usize) -> u32 {
@@ -33,7 +30,7 @@ fn with_place(h: u32, found: EntryPlace) -> u32 {
     } = found;
     [u32::from(list), u32::from(entry), low(place), low(length)]
         .into_iter()
-        .fold(h, with)
+        .fold(h, digest_step)
 }
 
 fn with_entry(h: u32, entry: RkBootEntry) -> u32 {
@@ -45,11 +42,13 @@ fn with_entry(h: u32, entry: RkBootEntry) -> u32 {
         data_size,
         data_delay,
     } = entry;
-    let h = with(with(h, u32::from(size)), type_);
-    let h = name.into_iter().fold(h, |h, unit| with(h, u32::from(unit)));
+    let h = digest_step(digest_step(h, u32::from(size)), type_);
+    let h = name
+        .into_iter()
+        .fold(h, |h, unit| digest_step(h, u32::from(unit)));
     [data_offset, data_size, data_delay]
         .into_iter()
-        .fold(h, with)
+        .fold(h, digest_step)
 }
 
 impl Walked {

@@ -31,12 +31,17 @@ fn has_own(call: Call) -> bool {
 
 // Whether it has the device, where there is one.
 fn has_device(call: Call) -> bool {
-    match call {
-        Call::StartDefault | Call::StartConfigured | Call::StartNor => true,
-        Call::WriteBulk | Call::ReadBulk | Call::WriteControl => true,
-        Call::RunOperation | Call::RunUpload => true,
-        _ => false,
-    }
+    matches!(
+        call,
+        Call::StartDefault
+            | Call::StartConfigured
+            | Call::StartNor
+            | Call::WriteBulk
+            | Call::ReadBulk
+            | Call::WriteControl
+            | Call::RunOperation
+            | Call::RunUpload
+    )
 }
 
 // The sections of the things that stay.

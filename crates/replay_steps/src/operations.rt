@@ -15,7 +15,6 @@ use replay_lines::buffer::{copy, first, first_mut};
 use replay_lines::data::LEN;
 use replay_lines::names::OperationName;
 use replay_lines::tokens::Tokens;
-use rule_number::RuleNumber;
 
 // The current operation, where there is one, and the buffer that the caller's data stands in.
 #[derive(Drop)]
@@ -80,7 +79,7 @@ fn step_answer(step: UsbStep, beside: Beside) -> Answer {
 fn step_refused(error: StepError, beside: Beside) -> Told {
     match error {
         StepError::Failed(error) => operation_error(error, beside.signature),
-        _ => Told::of(error.number(), &[]),
+        _ => Told::numbered(error),
     }
 }
 
@@ -109,7 +108,7 @@ impl Operations<'_> {
                 length,
             });
         }
-        Some(Answer::from(Told::of(answer.number(), &[])))
+        Some(Answer::from(Told::numbered(answer)))
     }
 
     // `opn`
@@ -153,6 +152,6 @@ impl Operations<'_> {
             record: done.next,
             length,
         });
-        Some(Answer::from(Told::of(done.answer.number(), &[])))
+        Some(Answer::from(Told::numbered(done.answer)))
     }
 }

@@ -6,7 +6,6 @@ use replay_answers::told::Told;
 use replay_lines::buffer::{copy, first, first_mut};
 use replay_lines::data::IMAGE;
 use replay_lines::tokens::Tokens;
-use rule_number::RuleNumber;
 
 // The current upload, where there is one, and the buffer that its image stands in.
 #[derive(Drop)]
@@ -40,7 +39,7 @@ fn step_told(step: Result<UploadStep, UploadError>) -> Told {
     match step {
         Ok(UploadStep::WriteControl(control)) => control_told(control),
         Ok(UploadStep::Finished) => Told::of(0, &[3]),
-        Err(error) => Told::of(error.number(), &[]),
+        Err(error) => Told::numbered(error),
     }
 }
 
@@ -60,7 +59,7 @@ impl Uploads<'_> {
                 length,
             });
         }
-        Some(Answer::from(Told::of(start.number(), &[])))
+        Some(Answer::from(Told::numbered(start)))
     }
 
     // `ust`

@@ -9,7 +9,6 @@ use replay_lines::tokens::Tokens;
 use replay_steps::held::Held;
 use replay_steps::operations::{Operations, reply_value};
 use replay_steps::uploads::Uploads;
-use rule_number::RuleNumber;
 use run_operation::RunError;
 use run_turn::StopError;
 use run_upload::{LoadError, LoadStopError, run_upload};
@@ -23,7 +22,7 @@ fn run_answer(answer: Result<UsbReply, RunError>, beside: Beside) -> Answer {
         Err(RunError::Stopped(StopError::Device(error))) => {
             Answer::from(refusal(error, beside.signature))
         }
-        Err(error) => Answer::from(Told::of(error.number(), &[])),
+        Err(error) => Answer::from(Told::numbered(error)),
     }
 }
 
@@ -31,7 +30,7 @@ fn load_told(answer: Result<(), LoadError>) -> Told {
     match answer {
         Ok(()) => Told::of(0, &[]),
         Err(LoadError::Stopped(LoadStopError::Device(error))) => refusal(error, [0; 4]),
-        Err(error) => Told::of(error.number(), &[]),
+        Err(error) => Told::numbered(error),
     }
 }
 

@@ -28,12 +28,8 @@ fn is_in_check(at: usize, rechecked: usize) -> bool {
 
 // Whether all bytes are as before but the checks of what was rechecked.
 fn is_as_before(old: &[u8; 9316], new: &[u8; 9316], rechecked: usize) -> bool {
-    for (at, (before, after)) in old.iter().zip(new).enumerate() {
-        if before != after && !is_in_check(at, rechecked) {
-            return false;
-        }
-    }
-    true
+    old.iter().zip(new).enumerate().all(|(at, (before, after))| before == after
+        || is_in_check(at, rechecked))
 }
 
 fn print_recheck<W: Write>(to: &mut W, recheck: Recheck) -> Result<()> {
