@@ -10,7 +10,8 @@ use replay_answers::told::Told;
 use replay_lines::buffer::{behind, first};
 use replay_lines::tokens::Tokens;
 use rule_number::RuleNumber;
-use std::io::{Result as Written, Write};
+use std::io::{self, Write};
+use std::ops::ControlFlow;
 
 // the most of an image whose list is asked for
 const LISTED: usize = 4194304;
@@ -27,7 +28,7 @@ struct List<'a> {
 
 impl List<'_> {
     // ` TYPE REQUEST VALUE INDEX BYTES`
-    fn write(&mut self, control: Control, block: &[u8]) -> Written<()> {
+    fn write(&mut self, control: Control, block: &[u8]) -> io::Result<()> {
         let Control {
             request_type,
             request,
@@ -45,14 +46,18 @@ impl List<'_> {
         let _ = self.write(control, block);
     }
 
-    // A step's transfer, or that it was the finish. A refusal is its number.
-    fn add(&mut self, step: Result<UploadStep, UploadError>, block: &[u8]) -> Result<bool, u8> {
+    // A step's transfer, behind which there are more, or the finish. A refusal is its number.
+    fn add(
+        &mut self,
+        step: Result<UploadStep, UploadError>,
+        block: &[u8],
+    ) -> Result<ControlFlow<()>, u8> {
         match step {
             Ok(UploadStep::WriteControl(control)) => {
                 self.put(control, block);
-                Ok(true)
+                Ok(ControlFlow::Continue(()))
             }
-            Ok(UploadStep::Finished) => Ok(false),
+            Ok(UploadStep::Finished) => Ok(ControlFlow::Break(())),
             Err(error) => Err(error.number()),
         }
     }
@@ -60,14 +65,14 @@ impl List<'_> {
 
 // What takes steps to a finish.
 trait Steps {
-    // Whether there was a transfer, which is added to the list, or the finish. A refusal is its number.
-    fn step(&mut self, list: &mut List) -> Result<bool, u8>;
+    // A transfer is added to the list, and the finish is the break. A refusal is its number.
+    fn step(&mut self, list: &mut List) -> Result<ControlFlow<()>, u8>;
 
     // The step after the finish must be the finish again: a transfer there is one too many.
     fn to_the_end(&mut self, list: &mut List) -> Result<(), u8> {
         // Stays bounded: a proved loop has to end.
         for _ in 0..TURNS {
-            if !self.step(list)? {
+            if self.step(list)?.is_break() {
                 break;
             }
         }
@@ -84,7 +89,7 @@ struct Whole<'a> {
 }
 
 impl Steps for Whole<'_> {
-    fn step(&mut self, list: &mut List) -> Result<bool, u8> {
+    fn step(&mut self, list: &mut List) -> Result<ControlFlow<()>, u8> {
         let mut out = [0u8; 4096];
         let done = self.record.step(self.image, &mut out);
         self.record = done.next;
@@ -135,7 +140,7 @@ impl Cut<'_> {
 
 // Closed, step by step.
 impl Steps for Cut<'_> {
-    fn step(&mut self, list: &mut List) -> Result<bool, u8> {
+    fn step(&mut self, list: &mut List) -> Result<ControlFlow<()>, u8> {
         let mut out = [0u8; 4096];
         let done = self.record.close(&mut out);
         self.record = done.next;

@@ -29,8 +29,8 @@ struct Asked {
     came: usize,
 }
 
-fn print_refused<W: Write>(to: &mut W, number: u8) -> Result<()> {
-    writeln!(to, "refused: {number}")
+fn print_refused<W: Write, E: RuleNumber>(to: &mut W, error: E) -> Result<()> {
+    writeln!(to, "refused: {}", error.number())
 }
 
 fn print_reply<W: Write>(to: &mut W, reply: UsbReply) -> Result<()> {
@@ -67,10 +67,10 @@ fn carry_out<W: Write>(
             Ok(UsbStep::Finished(reply)) => return print_reply(to, reply),
             Ok(UsbStep::ReadStatus(_)) => next = next.give(status, sectors).next,
             Ok(_) => {}
-            Err(error) => return print_refused(to, error.number()),
+            Err(error) => return print_refused(to, error),
         }
     }
-    print_refused(to, OutOfSteps.number())
+    print_refused(to, OutOfSteps)
 }
 
 fn tell<W: Write>(
@@ -81,7 +81,7 @@ fn tell<W: Write>(
 ) -> Result<()> {
     let start = write_lba(asked.tag, 0, asked.size);
     if let Err(error) = start.answer {
-        return print_refused(to, error.number());
+        return print_refused(to, error);
     }
     if asked.size > ROOM {
         return writeln!(to, "not tried: above 65536 bytes");
