@@ -9,6 +9,7 @@ use deck_io::input::{End, fill, usable_bytes};
 use deck_io::output::write_out;
 use deck_io::within;
 use std::io::{Read, Write};
+use std::ops::ControlFlow;
 
 // A deck on its way, chunk by chunk. There is room for the lines of every block of a chunk, so that it is not refused.
 #[derive(Drop)]
@@ -34,8 +35,8 @@ impl<R: Read + Drop, W: Write + Drop, E: Write + Drop> Run<R, W, E> {
         );
     }
 
-    // Whether the lines were written; where they were not, what to do is said behind the reason.
-    fn print_lines(&mut self, bytes: usize) -> bool {
+    // Writes the lines; where they were not written, what to do is said behind the reason.
+    fn print_lines(&mut self, bytes: usize) -> ControlFlow<()> {
         let used = within(bytes, &self.lines);
         let output = write_out(
             &mut self.to,
@@ -48,12 +49,13 @@ impl<R: Read + Drop, W: Write + Drop, E: Write + Drop> Run<R, W, E> {
                 &mut self.errors,
                 "bench: not every line could be written; run it again with an output that takes them",
             );
+            return ControlFlow::Break(());
         }
-        output.is_ok()
+        ControlFlow::Continue(())
     }
 
     // The blocks in the chunk's first bytes.
-    fn deal_and_print(&mut self, bytes: usize) -> bool {
+    fn deal_and_print(&mut self, bytes: usize) -> ControlFlow<()> {
         let used = within(bytes, &self.chunk);
         let step = self.deck.deal_chunk(
             &self.chunk[..used],
@@ -67,24 +69,28 @@ impl<R: Read + Drop, W: Write + Drop, E: Write + Drop> Run<R, W, E> {
                 &mut self.errors,
                 "bench: a chunk was refused by 20: this program has to be mended",
             );
-            return false;
+            return ControlFlow::Break(());
         };
         self.print_lines(count.bytes)
     }
 
-    // Whether there may be more of the deck.
-    fn deal_once(&mut self) -> bool {
+    // Goes on where there may be more of the deck.
+    fn deal_once(&mut self) -> ControlFlow<()> {
         let input = fill(
             &mut self.from,
             &mut self.errors,
             &mut self.chunk,
             b"bench: the deck could not be read on",
         );
-        let is_printed = self.deal_and_print(usable_bytes(input));
+        let printed = self.deal_and_print(usable_bytes(input));
         if input.end == Some(End::Failed) {
             self.say_unread();
         }
-        is_printed && input.end.is_none()
+        printed?;
+        match input.end {
+            None => ControlFlow::Continue(()),
+            Some(_) => ControlFlow::Break(()),
+        }
     }
 }
 
@@ -112,7 +118,7 @@ fn main(rt: HostRuntime) {
         deck: Deck::new(start.bench),
     };
     for _ in 0..u64::MAX {
-        if !run.deal_once() {
+        if run.deal_once().is_break() {
             return;
         }
     }

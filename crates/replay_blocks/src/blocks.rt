@@ -82,7 +82,7 @@ pub(crate) fn map_status(bytes: &[u8]) -> Told {
 fn written(answer: Result<usize, OutputTooShort>) -> Told {
     match answer {
         Ok(n) => Told::of(0, &[n as u64]),
-        Err(error) => Told::of(error.number(), &[]),
+        Err(error) => Told::numbered(error),
     }
 }
 

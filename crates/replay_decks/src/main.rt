@@ -7,14 +7,14 @@ mod printed;
 
 use dealt::{BLOCK, block_bytes};
 use deck::bench::{Bench, BenchStart, DeckStep};
+use mock_base::error::MockTransportError;
 use printed::{block, device};
 use replay_answers::out::Output;
 use replay_lines::buffer::first;
 use replay_lines::input::Input;
 use replay_lines::names::Call;
 use replay_lines::tokens::Tokens;
-use rule_number::RuleNumber;
-use std::io::{Result, Write};
+use std::io::{self, Write};
 
 // The bench, whether its deck takes another block, and the buffers that its flash and its store stand in.
 #[derive(Drop)]
@@ -42,12 +42,12 @@ impl<'a> Table<'a> {
         }
     }
 
-    // `dck`: the number that the bench started with.
-    fn begin(&mut self) -> u8 {
+    // `dck`: what the bench's start came to.
+    fn begin(&mut self) -> Result<(), MockTransportError> {
         let start = fresh(self.flash, self.store);
         self.bench = start.bench;
         self.is_open = true;
-        start.answer.result.number()
+        start.answer.result
     }
 
     // `blk`: a short block is the last.
@@ -61,10 +61,15 @@ impl<'a> Table<'a> {
         Some(step)
     }
 
-    // The number and the device, where the line ends there.
-    fn print_device<W: Write>(&self, out: &mut W, number: u8, rest: Tokens) -> Result<()> {
+    // The answer's number and the device, where the line ends there.
+    fn print_device<W: Write>(
+        &self,
+        out: &mut W,
+        answer: Result<(), MockTransportError>,
+        rest: Tokens,
+    ) -> io::Result<()> {
         match rest.end() {
-            Some(()) => device(out, number, self.bench.device, self.flash, self.store),
+            Some(()) => device(out, answer, self.bench.device, self.flash, self.store),
             None => out.write_all(b"outside"),
         }
     }
@@ -78,12 +83,12 @@ fn answer<W: Write>(
     line: &[u8],
     table: &mut Table,
     data: &mut [u8; 512],
-) -> Result<()> {
+) -> io::Result<()> {
     let mut tokens = Tokens::new(line);
     match tokens.call() {
         Some(Call::FreshDeck) => {
-            let number = table.begin();
-            table.print_device(out, number, tokens)
+            let started = table.begin();
+            table.print_device(out, started, tokens)
         }
         Some(Call::Block) => {
             let len = block_bytes(tokens, data);
@@ -92,12 +97,12 @@ fn answer<W: Write>(
                 None => out.write_all(b"outside"),
             }
         }
-        Some(Call::DeckDevice) => table.print_device(out, 0, tokens),
+        Some(Call::DeckDevice) => table.print_device(out, Ok(()), tokens),
         _ => out.write_all(b"outside"),
     }
 }
 
-fn main(rt: HostRuntime) -> Result<()> {
+fn main(rt: HostRuntime) -> io::Result<()> {
     let mut chunk = [0u8; 65536];
     let mut line = [0u8; 4096];
     let mut buffer = [0u8; 65536];

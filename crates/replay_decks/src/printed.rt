@@ -2,12 +2,14 @@
 use deck::bench::DeckStep;
 use deck::verdict::RefusalNumber;
 use mock::device::MockState;
+use mock_base::error::MockTransportError;
 use operation_finish::{Beside, SectorTransfer, UsbReply};
 use replay_answers::out::hex;
-use std::io::{Result, Write};
+use rule_number::RuleNumber;
+use std::io::{self, Write};
 
 // The bytes moved; of a short transfer, a slash and the bytes asked stand behind them.
-fn transfer<W: Write>(out: &mut W, transfer: SectorTransfer) -> Result<()> {
+fn transfer<W: Write>(out: &mut W, transfer: SectorTransfer) -> io::Result<()> {
     match transfer {
         SectorTransfer::Whole(moved) => {
             let moved = moved.0;
@@ -23,7 +25,7 @@ fn transfer<W: Write>(out: &mut W, transfer: SectorTransfer) -> Result<()> {
 
 // Bytes for chip info, flash id, flash info and capability, a count for sectors, and nothing else.
 // Stays a `match`: each reply has bytes of its own beside it.
-fn reply<W: Write>(out: &mut W, reply: UsbReply, beside: Beside) -> Result<()> {
+fn reply<W: Write>(out: &mut W, reply: UsbReply, beside: Beside) -> io::Result<()> {
     match reply {
         UsbReply::ChipInfo => hex(out, &beside.chip_info.0),
         UsbReply::FlashId => hex(out, &beside.flash_id.0),
@@ -35,7 +37,7 @@ fn reply<W: Write>(out: &mut W, reply: UsbReply, beside: Beside) -> Result<()> {
 }
 
 // The line of the block that was dealt last.
-pub(crate) fn block<W: Write>(out: &mut W, step: DeckStep) -> Result<()> {
+pub(crate) fn block<W: Write>(out: &mut W, step: DeckStep) -> io::Result<()> {
     let block = step.bench.number;
     match step.verdict {
         Ok(done) => {
@@ -46,14 +48,14 @@ pub(crate) fn block<W: Write>(out: &mut W, step: DeckStep) -> Result<()> {
     }
 }
 
-// The number and the device.
+// The answer's number and the device.
 pub(crate) fn device<W: Write>(
     out: &mut W,
-    number: u8,
+    answer: Result<(), MockTransportError>,
     state: MockState,
     flash: &[u8],
     store: &[u8],
-) -> Result<()> {
-    write!(out, "{number}")?;
+) -> io::Result<()> {
+    write!(out, "{}", answer.number())?;
     replay_shown::device(out, state, flash, store)
 }

@@ -6,7 +6,6 @@ use protocol_reply::size::sector_count;
 use replay_answers::answer::Answer;
 use replay_answers::told::Told;
 use replay_answers::values::storage;
-use rule_number::RuleNumber;
 
 pub fn chip_info(bytes: &[u8]) -> Option<Answer> {
     let info = ChipInfo::from_bytes(*bytes.as_array::<16>()?);
@@ -50,13 +49,13 @@ pub fn capability(bytes: &[u8]) -> Option<Answer> {
 pub fn media(bytes: &[u8]) -> Option<Told> {
     match storage_index(*bytes.as_array::<4>()?) {
         Ok(index) => Some(storage(index)),
-        Err(error) => Some(Told::of(error.number(), &[])),
+        Err(error) => Some(Told::numbered(error)),
     }
 }
 
 pub fn sectors(length: usize) -> Told {
     match sector_count(length) {
         Ok(count) => Told::of(0, &[u64::from(count.0)]),
-        Err(error) => Told::of(error.number(), &[]),
+        Err(error) => Told::numbered(error),
     }
 }

@@ -5,15 +5,18 @@
 
 use mock::config::MockDeviceConfig;
 use mock::device::{MockState, MockStep};
+use mock_base::error::MockTransportError;
 use operation::starts::{erase_lba, read_lba, storage, switch_storage, write_lba};
 use operation::steps::UsbOperation;
 use operation_finish::{SectorTransfer, UsbReply};
 use protocol_codes::StorageIndex;
+use protocol_status::failure::UsbOperationError;
 use replay_lines::buffer::{first, first_mut};
 use replay_lines::input::Input;
 use replay_lines::tokens::Tokens;
 use rule_number::RuleNumber;
-use run_operation::run_whole;
+use run_operation::{RunError, run_whole};
+use run_turn::StopError;
 use std::io::{Read, Result, Write};
 
 // the most sectors of a head, and of a read or a write
@@ -101,20 +104,30 @@ impl Call {
     }
 }
 
-fn print_refused<W: Write>(to: &mut W, number: u8, call: Call, block_size: u16) -> Result<()> {
-    match number {
-        15 => match call {
-            Call::Write { .. } => writeln!(to, "failed (15): the cells did not take it"),
-            _ => writeln!(to, "failed (15): the head did not take it"),
-        },
-        53 => writeln!(to, "refused (53): the head knows no such command"),
-        57 => writeln!(to, "refused (57): past the end of the flash"),
-        62 => writeln!(to, "refused (62): a block size of 0"),
-        63 => writeln!(
+// A refusal of the head's.
+fn print_device<W: Write>(to: &mut W, error: MockTransportError, block_size: u16) -> Result<()> {
+    match error {
+        MockTransportError::UnknownCommand(_) => {
+            writeln!(to, "refused (53): the head knows no such command")
+        }
+        MockTransportError::OutOfRange => writeln!(to, "refused (57): past the end of the flash"),
+        MockTransportError::ZeroBlockSize => writeln!(to, "refused (62): a block size of 0"),
+        MockTransportError::UnalignedErase => writeln!(
             to,
             "refused (63): erases take whole blocks of {block_size} sectors"
         ),
-        _ => writeln!(to, "refused: {number}"),
+        _ => writeln!(to, "refused: {}", error.number()),
+    }
+}
+
+fn print_refused<W: Write>(to: &mut W, error: RunError, call: Call, block_size: u16) -> Result<()> {
+    match error {
+        RunError::Stopped(StopError::Failed(UsbOperationError::FailedStatus)) => match call {
+            Call::Write { .. } => writeln!(to, "failed (15): the cells did not take it"),
+            _ => writeln!(to, "failed (15): the head did not take it"),
+        },
+        RunError::Stopped(StopError::Device(error)) => print_device(to, error, block_size),
+        _ => writeln!(to, "refused: {}", error.number()),
     }
 }
 
@@ -185,7 +198,7 @@ impl Head {
                 to,
                 "a NOR head of {sectors} sectors, erased in blocks of {block_size}"
             ),
-            Err(error) => print_refused(to, error.number(), call, block_size),
+            Err(error) => print_device(to, error, block_size),
         }
     }
 
@@ -213,7 +226,7 @@ impl Head {
         self.device = done.device;
         match done.answer {
             Ok(reply) => print_reply(to, reply, call, &bytes),
-            Err(error) => print_refused(to, error.number(), call, block_size),
+            Err(error) => print_refused(to, error, call, block_size),
         }
     }
 
