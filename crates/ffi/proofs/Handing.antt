@@ -1,5 +1,5 @@
 -- What the loop over parts keeps, and how it is left.
-use Prim.Native.Nat.{ℕ, ◌+◌, ◌-◌, ◌<◌, ◌≤◌, min}
+use Prim.Native.Nat.{ℕ, suc, ◌+◌, ◌-◌, ◌<◌, ◌≤◌, min}
 use mathlib.Core.Path.{◌≡◌, refl, ap, sym, ◌∙◌, subst}
 use mathlib.Core.Bool.{Bool, true, false}
 use mathlib.Core.List.{List, [], ◌∷◌, ◌++◌}
@@ -9,6 +9,7 @@ use borrow.Author.Tests.{ne_eqb}
 use lib.ListN.{length, take, drop, length-take, length-drop}
 use Rattle.std.specs.Prelude.{Result}
 use Rattle.std.specs.declared.result.Result.TheVariants.{Ok, Err}
+use Rattle.rule_number.specs.Number.{number_of}
 use Rattle.promise.specs.Told.{Told, given, refused, number}
 use Rattle.promise.specs.Rules.{or_refuse, Rule, rule, unless, pick, too_short}
 use Rattle.promise.specs.Does.{Does, does, Meets, said}
@@ -23,7 +24,7 @@ use Rattle.promise.specs.Run.{ends, goes, end_told, Ran, runs}
 use Rattle.promise.proofs.Loop.{On, goes_on, stops, spent}
 use Rattle.ffi.specs.declared.driving.HandedOver.{HandedOver}
 use Rattle.ffi.specs.Drive.{Handing, handing, on_part, part_turn}
-use Rattle.ffi.specs.Code.{HandsOver, part_pace}
+use Rattle.ffi.specs.Code.{HandsOver, IsNumbered, part_pace}
 
 -- a part that took nothing is refused by its number
 pub refused_pace : (error : PartError) → ◌≡◌ {A = Result ℕ ℕ} (Err (part_error_number error)) (part_pace (part_told (Err error)))
@@ -31,6 +32,24 @@ unfolding part_told part_pace
 refused_pace OutputTooShort = refl
 refused_pace AlreadyClosed = refl
 refused_pace ImageTooLong = refl
+
+-- and no refusal has the number 0
+err_suc : {A : Type 0} (n : ℕ) → IsNumbered {A = A} (Err (suc n))
+err_suc n e = let z : ◌≡◌ {A = ℕ} (suc n) 0 = cc in absurd (omega (arith, z))
+
+pub numbered : (error : PartError) → IsNumbered {A = ℕ} (Err (part_error_number error))
+numbered OutputTooShort = err_suc 19
+numbered AlreadyClosed = err_suc 25
+numbered ImageTooLong = err_suc 24
+
+pub out_of_steps_numbered : IsNumbered {A = Unit} (Err 28)
+out_of_steps_numbered = err_suc 27
+
+over_numbered : IsNumbered {A = Unit} (Ok tt)
+over_numbered e = absurd (let z : ◌≡◌ {A = ℕ} 0 1 = cc in omega arith)
+
+same_numbered : (n : ℕ) → IsNumbered {A = ℕ} (Err n) → IsNumbered {A = Unit} (Err n)
+same_numbered n h e = let z : n ≡ 0 = cc in h (ap (λ (x : ℕ). Err x) z)
 
 took_only : {C : Type 0} (n m : ℕ) → ◌≡◌ {A = Result ℕ ℕ} (Ok n) (Err m) → C
 took_only n m e = absurd (let z : ◌≡◌ {A = ℕ} 0 1 = cc in omega arith)
@@ -108,23 +127,24 @@ module _ (size budget : ℕ) (m₀ : MaskRomOperation) (image out₀ : List ℕ)
   abbrev pub Handling : ℕ → MaskRomOperation → List ℕ → List ℕ → Type 0
   Handling used m left out = On (part_turn size) budget used whole (handing m left out)
 
-  abbrev made : ℕ → MaskRomOperation → HandedOver
-  made n m = record { number = n; operation = m }
+  abbrev made : Result Unit ℕ → MaskRomOperation → HandedOver
+  made r m = record { answer = r; operation = m }
 
-  handed : (n : ℕ) (m : MaskRomOperation) (out : List ℕ) (run : Ran Unit Handing) → whole ≡ run → n ≡ number (end_told run.end) → m ≡ run.state.operation
-      → out ≡ run.state.out → HandsOver (made n m) out whole
-  handed n m out run e f g h = subst (λ (x : Ran Unit Handing). HandsOver (made n m) out x) (sym e) (record { tells = f; next = g; leaves = h })
+  handed : (r : Result Unit ℕ) (m : MaskRomOperation) (out : List ℕ) (run : Ran Unit Handing) → whole ≡ run
+      → number_of (λ (n : ℕ). n) r ≡ number (end_told run.end) → IsNumbered r → m ≡ run.state.operation → out ≡ run.state.out → HandsOver (made r m) out whole
+  handed r m out run e f k g h =
+      subst (λ (x : Ran Unit Handing). HandsOver (made r m) out x) (sym e) (record { tells = f; numbered = k; next = g; leaves = h })
 
   module _ (used : ℕ) (m : MaskRomOperation) (left out : List ℕ) (on : Handling used m left out) where
-    pub hand_spent : used ≡ budget → HandsOver (made 28 m) out whole
+    pub hand_spent : used ≡ budget → HandsOver (made (Err 28) m) out whole
     unfolding number end_told
-    hand_spent e = handed 28 m out _ (spent (part_turn size) budget used (handing m left out) e on) refl refl refl
+    hand_spent e = handed (Err 28) m out _ (spent (part_turn size) budget used (handing m left out) e on) refl out_of_steps_numbered refl refl
 
-    pub hand_done : used < budget → length left ≡ 0 → HandsOver (made 0 m) out whole
+    pub hand_done : used < budget → length left ≡ 0 → HandsOver (made (Ok tt) m) out whole
     unfolding number end_told part_turn
     hand_done h e =
-        handed 0 m out _
-        (stops (part_turn size) budget used (handing m left out) (handing m left out) (given tt) h (rw e refl) on) refl refl refl
+        handed (Ok tt) m out _
+        (stops (part_turn size) budget used (handing m left out) (handing m left out) (given tt) h (rw e refl) on) refl over_numbered refl refl
 
     module _ (h : used < budget) (more : 0 < length left) (told : Told Handed) (back : MaskRomOperation) (after-out : List ℕ)
         (meets : Meets told back out after-out m (part_step m (take size left) (length out))) where
@@ -138,9 +158,9 @@ module _ (size budget : ℕ) (m₀ : MaskRomOperation) (image out₀ : List ℕ)
       hand_on n e =
           goes_on (part_turn size) budget used (handing m left out) (handing back (drop n left) after-out) h (turned ∙ pace_took back left after-out told n e) on
 
-      pub hand_refused : (n : ℕ) → part_pace told ≡ Err n → HandsOver (made n back) after-out whole
+      pub hand_refused : (n : ℕ) → part_pace told ≡ Err n → IsNumbered {A = ℕ} (Err n) → HandsOver (made (Err n) back) after-out whole
       unfolding end_told
-      hand_refused n e =
-          handed n back after-out _
+      hand_refused n e k =
+          handed (Err n) back after-out _
           (stops (part_turn size) budget used (handing m left out) (handing back left after-out) (ending told) h (turned ∙ pace_refused back left after-out told n e) on)
-          (pace_number told n e) refl refl
+          (pace_number told n e) (same_numbered n k) refl refl

@@ -1,20 +1,21 @@
 // An upload driven to its end over one lent output, with a budget of calls.
 // Stays a number from here on, in each pace and in `HandedOver`: C is told it.
-ghost use Rattle.std.specs.Prelude.{◌≡◌};
-ghost use Rattle.maskrom.specs.Answers.{step_told, part_told};
-ghost use Rattle.maskrom.specs.PartWise.{close_step};
+ghost use Rattle.std.specs.Prelude.{◌≡◌, ℕ};
+ghost use Rattle.promise.specs.Told.{Told};
+ghost use Rattle.promise.specs.Does.{Does};
 ghost use Rattle.promise.specs.Run.{runs};
-ghost use Rattle.ffi.specs.Drive.{DriveMeets, step_drive, step_of, most_closing, handing, part_turn};
-ghost use Rattle.ffi.specs.Code.{pace_of, part_pace, HandsOver};
+ghost use Rattle.maskrom.specs.Answers.{Asks, step_told, part_told};
+ghost use Rattle.ffi.specs.Drive.{DriveMeets, step_drive, handing, part_turn};
+ghost use Rattle.ffi.specs.Code.{pace_of, part_pace, IsNumbered, HandsOver, CallsMeet};
 
-use maskrom::{MaskRomOperation, PartError, PartStep, UploadError, UploadStep, WholeUpload};
-use rule_number::RuleNumber;
+use maskrom::{MaskRomOperation, PartError, PartStep, UploadError, UploadStep};
+use rule_number::{OutOfSteps, RuleNumber};
 use std::ops::ControlFlow;
 
-// 0, or the number that C is told of a part's refusal.
+// How the handing over ended, a refusal by the number that C is told of it, and the operation as it is left.
 #[derive(Clone, Copy)]
 pub(crate) struct HandedOver {
-    pub number: u8,
+    pub answer: Result<(), u8>,
     pub operation: MaskRomOperation,
 }
 
@@ -31,9 +32,10 @@ fn pace_of(step: Result<UploadStep, UploadError>) -> ControlFlow<u8>
 }
 
 // How many bytes a part took, or the number of its refusal.
-#[tactic(auto, using(crate::proofs::Handing::refused_pace), unfolding(maskrom::specs::Answers::part_told, crate::specs::Code::part_pace))]
+#[tactic(auto, using(crate::proofs::Handing::refused_pace, crate::proofs::Handing::numbered), unfolding(maskrom::specs::Answers::part_told, crate::specs::Code::part_pace))]
 fn part_pace(step: Result<PartStep, PartError>) -> Result<usize, u8>
-    ensures { result ≡ part_pace (part_told step) }
+    ensures tells { result ≡ part_pace (part_told step) }
+    ensures numbered { IsNumbered result }
 {
     match step {
         Ok(PartStep::Taken(n)) => Ok(n),
@@ -42,34 +44,25 @@ fn part_pace(step: Result<PartStep, PartError>) -> Result<usize, u8>
     }
 }
 
-// Step after step, until the finish, a refusal or the end of the budget.
-pub(crate) fn whole_on(mut upload: WholeUpload, image: &[u8], out: &mut [u8], budget: u32) -> u8
-    ensures { DriveMeets result out.new (step_drive (step_of image.now) budget upload out.old) }
+// Step after step, until the finish, a refusal or the end of the budget. It promises the drive of any `comes` that every call of `step` meets.
+pub(crate) fn drive<S: Copy, F: Fn(S, &mut [u8]) -> (Result<UploadStep, UploadError>, S)>(
+    start: S,
+    budget: u32,
+    out: &mut [u8],
+    step: F,
+) -> u8
+    requires { F.IsAlwaysCallable step }
+    ensures { (comes : S → ℕ → Told (Does Asks S)) → CallsMeet (F.post step) comes → DriveMeets result out.new (step_drive comes budget start out.old) }
 {
+    let mut upload = start;
     for _ in 0..budget {
-        let stepped = upload.step(image, out);
-        upload = stepped.next;
-        if let ControlFlow::Break(number) = pace_of(stepped.step) {
+        let (stepped, next) = step(upload, out);
+        upload = next;
+        if let ControlFlow::Break(number) = pace_of(stepped) {
             return number;
         }
     }
-    28
-}
-
-const MOST_CLOSING: u32 = 3;
-
-// The same for the closing steps of an image that was handed over.
-pub(crate) fn close_on(mut operation: MaskRomOperation, out: &mut [u8]) -> u8
-    ensures { DriveMeets result out.new (step_drive close_step most_closing operation out.old) }
-{
-    for _ in 0..MOST_CLOSING {
-        let stepped = operation.close(out);
-        operation = stepped.next;
-        if let ControlFlow::Break(number) = pace_of(stepped.step) {
-            return number;
-        }
-    }
-    28
+    OutOfSteps.number()
 }
 
 // Part after part, what was not taken again with the next, until nothing is left.
@@ -86,7 +79,7 @@ pub(crate) fn hand_over(
     for _ in 0..budget {
         if from == image.len() {
             return HandedOver {
-                number: 0,
+                answer: Ok(()),
                 operation,
             };
         }
@@ -95,11 +88,16 @@ pub(crate) fn hand_over(
         operation = stepped.next;
         match part_pace(stepped.step) {
             Ok(n) => from += n,
-            Err(number) => return HandedOver { number, operation },
+            Err(number) => {
+                return HandedOver {
+                    answer: Err(number),
+                    operation,
+                };
+            }
         }
     }
     HandedOver {
-        number: 28,
+        answer: Err(OutOfSteps.number()),
         operation,
     }
 }

@@ -11,10 +11,12 @@ use Rattle.maskrom.specs.declared.MaskRomOperation.{MaskRomOperation}
 use Rattle.maskrom.specs.declared.PartStepped.{PartStepped}
 use Rattle.maskrom.specs.Answers.{part_told}
 use Rattle.maskrom.specs.Calls.{PartMeets}
+use Rattle.promise.specs.Run.{runs}
 use Rattle.promise.proofs.Loop.{begins}
-use Rattle.std.specs.declared.result.Result.TheVariants.{Ok}
+use Rattle.std.specs.Prelude.{Result}
+use Rattle.std.specs.declared.result.Result.TheVariants.{Ok, Err}
 use Rattle.ffi.specs.Drive.{handing, part_turn}
-use Rattle.ffi.specs.Code.{part_pace}
+use Rattle.ffi.specs.Code.{part_pace, IsNumbered, HandsOver}
 use Rattle.ffi.proofs.Handing.{Handling, lent_part, took_within, hand_spent, hand_done, hand_on, hand_refused}
 use Rattle.ffi.proofs.driving.hand_over.Goals as goal
 
@@ -44,7 +46,7 @@ overflow_add-from c =
     let a = c.args in
     let t = c.part-stepped in
     let meets = met a.size l.from c.min.result a.image.now l.operation t.result l.out t.new.out c.min.ensures t.ensures in
-    let all = within a.size l.from a.image.now l.operation t.result l.out t.new.out c.in-Ok.n meets (sym c.part_pace.ensures ∙ c.in-Ok.is) l.invariant.1 in
+    let all = within a.size l.from a.image.now l.operation t.result l.out t.new.out c.in-Ok.n meets (sym c.part_pace.ensures.tells ∙ c.in-Ok.is) l.invariant.1 in
     omega (arith, all)
 
 -- once a part was handed over
@@ -55,7 +57,7 @@ loop-preserved c =
     let image = a.image.now in
     let t = c.part-stepped in
     let n = c.in-Ok.n in
-    let e = sym c.part_pace.ensures ∙ c.in-Ok.is in
+    let e = sym c.part_pace.ensures.tells ∙ c.in-Ok.is in
     let meets = met a.size l.from c.min.result image l.operation t.result l.out t.new.out c.min.ensures t.ensures in
     let more : l.counter < a.budget = c.loop-test.true in
     let rest : 0 < length (drop l.from image) = simp length-drop (let some = c.if-from-image.false in omega (arith, l.invariant.1)) in
@@ -86,11 +88,13 @@ returns-in-Err c =
     let more : l.counter < a.budget = c.loop-test.true in
     let rest : 0 < length (drop l.from image) = simp length-drop (let some = c.if-from-image.false in omega (arith, l.invariant.1)) in
     hand_refused a.size a.budget a.operation image a.out.now l.counter l.operation (drop l.from image) l.out l.invariant.0
-    more rest (part_told t.result.step) t.result.next t.new.out meets c.in-Err.number (sym c.part_pace.ensures ∙ c.in-Err.is)
+    more rest (part_told t.result.step) t.result.next t.new.out meets c.in-Err.number (sym c.part_pace.ensures.tells ∙ c.in-Err.is)
+    (subst (λ (p : Result ℕ ℕ). IsNumbered p) c.in-Err.is c.part_pace.ensures.numbered)
 
 pub returns : goal.returns
 returns c =
     let l = c.loop in
     let a = c.args in
     let all : l.counter ≡ a.budget = omega (arith, l.invariant.0.within) in
-    hand_spent a.size a.budget a.operation a.image.now a.out.now l.counter l.operation (drop l.from a.image.now) l.out l.invariant.0 all
+    subst (λ (n : ℕ). HandsOver (record { answer = Err n; operation = l.operation }) l.out (runs (part_turn a.size) a.budget (handing a.operation a.image.now a.out.now))) (sym c.number.ensures)
+    (hand_spent a.size a.budget a.operation a.image.now a.out.now l.counter l.operation (drop l.from a.image.now) l.out l.invariant.0 all)
