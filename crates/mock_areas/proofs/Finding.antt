@@ -10,7 +10,7 @@ use borrow.Author.Tests.{ltb-true, ltb-false}
 use Rattle.std.specs.Prelude.{Option}
 use Rattle.std.specs.declared.option.Option.TheVariants.{Some, None}
 use Rattle.promise.specs.Rules.{pick}
-use Rattle.mock_areas.specs.Slots.{slot_count, slot_size, free_slot, passes, first_at, held_at, is_held, place, among_slots, place_among, area_found, slot_used}
+use Rattle.mock_areas.specs.Slots.{slot_count, slot_size, free_slot, passes, first_at, held_at, is_held, place, among_slots, place_among, area_found}
 use Rattle.mock_areas.specs.declared.Area.{Area}
 use Rattle.mock_areas.specs.declared.Areas.{Areas}
 use Rattle.mock_areas.specs.declared.Place.{Place}
@@ -56,15 +56,15 @@ module _ (areas : Areas) (number n : ℕ) where
   not_found e = rw (missed (is_held number areas.slots) (held_at number areas.slots) e) refl
 
   pub found : (at : ℕ) → among_slots (first_at (passes (Some number)) areas.slots) ≡ Some at
-      → area_found areas number n ≡ Some (record { start = at * slot_size n; length = slot_used (get_or areas.slots at free_slot) })
+      → area_found areas number n ≡ Some (record { start = at * slot_size n; length = (get_or areas.slots at free_slot).used })
   unfolding among_slots area_found held_at
   found at e =
       let t = picked (is_held number areas.slots) (held_at number areas.slots) at e in
       rw (t.0, t.1) refl
 
-module _ (number : ℕ) (slots : List (Option Area)) where
+module _ (number : ℕ) (slots : List Area) where
   pub placed_held : (at : ℕ) → among_slots (first_at (passes (Some number)) slots) ≡ Some at
-      → place_among (place number slots) ≡ Some (record { slot = at; used = slot_used (get_or slots at free_slot) })
+      → place_among (place number slots) ≡ Some (record { slot = at; used = (get_or slots at free_slot).used })
   unfolding among_slots place_among place held_at
   placed_held at e =
       let t = picked (is_held number slots) (held_at number slots) at e in

@@ -17,7 +17,7 @@ use Rattle.promise.specs.Bytes.{field}
 use Rattle.promise.specs.Over.{over}
 use Rattle.promise.proofs.Over.{length_over, field_before, field_behind, field_grows}
 use Rattle.promise.proofs.Outcome.{Met, by_test, on_test, either_way}
-use Rattle.mock_areas.specs.Slots.{slot_count, slot_size, free_slot, fresh_areas, passes, first_at, held_at, is_held, used_at, place, area_found, slot_held, slot_number, slot_used}
+use Rattle.mock_areas.specs.Slots.{slot_count, slot_size, free_slot, fresh_areas, passes, first_at, held_at, is_held, used_at, place, area_found}
 use Rattle.mock_areas.specs.Append.{Appending, held_by, append_rules, refused_append, appended_at, append_step}
 use Rattle.mock_areas.specs.Contents.{bytes_at, contents, Sound, so_far, gains, Write, areas_after, store_after, gathered, Grows}
 use Rattle.mock_areas.specs.declared.Area.{Area}
@@ -30,24 +30,24 @@ use Rattle.mock_areas.proofs.Room.{slot_end, slot_inside}
 use Rattle.std.specs.declared.option.Option.TheVariants.{Some, None}
 
 -- a slot that is held by one number is not held by another, and a free slot by none
-held_by_one : (area : Option Area) (a b : ℕ) → (b ≡ a → ⊥) → passes (Some a) area ≡ true → passes (Some b) area ≡ false
+held_by_one : (area : Area) (a b : ℕ) → (b ≡ a → ⊥) → passes (Some a) area ≡ true → passes (Some b) area ≡ false
 unfolding passes
 held_by_one area a b other h =
-    on_test (slot_held area)
-    (λ t. let e : slot_number area ≡ a = eqb-true (slot_number area) a (rw t at h) in
-    rw t (ne_eqb (slot_number area) b (λ f. other (sym f ∙ e))))
+    on_test area.held
+    (λ t. let e : area.number ≡ a = eqb-true area.number a (rw t at h) in
+    rw t (ne_eqb area.number b (λ f. other (sym f ∙ e))))
     (λ t. rw t refl)
 
-free_by_none : (area : Option Area) (b : ℕ) → passes None area ≡ true → passes (Some b) area ≡ false
+free_by_none : (area : Area) (b : ℕ) → passes None area ≡ true → passes (Some b) area ≡ false
 unfolding passes
-free_by_none area b h = rw (not-true (slot_held area) h) refl
+free_by_none area b h = rw (not-true area.held h) refl
 
-is_held_lem : (area : Option Area) (a : ℕ) → passes (Some a) area ≡ true → slot_held area ≡ true
+is_held_lem : (area : Area) (a : ℕ) → passes (Some a) area ≡ true → area.held ≡ true
 unfolding passes
-is_held_lem area a h = on_test (slot_held area) (λ t. t) (λ t. let z : false ≡ true = rw t at h in t ∙ z)
+is_held_lem area a h = on_test area.held (λ t. t) (λ t. let z : false ≡ true = rw t at h in t ∙ z)
 
 -- where a write goes, its slot being one of the eight: not behind the slot that holds the number, and to no slot that another holds
-module _ (number : ℕ) (slots : List (Option Area)) (eight : length slots ≡ slot_count) where
+module _ (number : ℕ) (slots : List Area) (eight : length slots ≡ slot_count) where
   first_of_number : (place number slots).slot < slot_count → (place number slots).slot ≤ held_at number slots
   unfolding place
   first_of_number =
@@ -74,7 +74,7 @@ module _ (areas : Areas) (store : List ℕ) (sound : Sound areas store) (b : ℕ
       let k = sound.eight in
       found_passes (passes (Some b)) free_slot areas.slots (omega arith)
 
-  held_slot : slot_held (get_or areas.slots (held_at b areas.slots) free_slot) ≡ true
+  held_slot : (get_or areas.slots (held_at b areas.slots) free_slot).held ≡ true
   held_slot = is_held_lem (get_or areas.slots (held_at b areas.slots) free_slot) b held_passes
 
   elsewhere : (i : ℕ) → passes (Some b) (get_or areas.slots i free_slot) ≡ false → held_at b areas.slots ≡ i → ⊥
@@ -105,15 +105,15 @@ module _ (areas : Areas) (number i used : ℕ) (bytes store : List ℕ) (sound :
   unfolding held_at held_by passes
   own_place =
       let h = sound.eight in
-      first_set (passes (Some number)) free_slot areas.slots i (Some (record { number = number; used = used + length bytes })) (omega arith)
+      first_set (passes (Some number)) free_slot areas.slots i (record { held = true; number = number; used = used + length bytes }) (omega arith)
       first (eq-eqb number number refl)
 
   own_used : used_at i (held_by areas i number (used + length bytes)).slots ≡ used + length bytes
   unfolding held_by
   own_used =
       let h = sound.eight in
-      ap slot_used
-      (get_or-set_same areas.slots i (Some (record { number = number; used = used + length bytes })) free_slot (omega arith))
+      ap (λ (a : Area). a.used)
+      (get_or-set_same areas.slots i (record { held = true; number = number; used = used + length bytes }) free_slot (omega arith))
 
   -- another slot's bytes and count are as they were
   beside : (j n : ℕ) → (j ≡ i → ⊥) → n ≤ slot_size (length store)
@@ -129,8 +129,8 @@ module _ (areas : Areas) (number i used : ℕ) (bytes store : List ℕ) (sound :
   other_used : (j : ℕ) → (j ≡ i → ⊥) → used_at j (held_by areas i number (used + length bytes)).slots ≡ used_at j areas.slots
   unfolding held_by
   other_used j far =
-      ap slot_used
-      (get_or-set_other areas.slots i j (Some (record { number = number; used = used + length bytes })) free_slot far)
+      ap (λ (a : Area). a.used)
+      (get_or-set_other areas.slots i j (record { held = true; number = number; used = used + length bytes }) free_slot far)
 
   own_bytes : contents number (held_by areas i number (used + length bytes)) (over (i * slot_size (length store) + used) bytes store)
       ≡ some (field (i * slot_size (length store)) used store ++ bytes)
@@ -141,7 +141,7 @@ module _ (areas : Areas) (number i used : ℕ) (bytes store : List ℕ) (sound :
   still_sound : Sound (held_by areas i number (used + length bytes)) (over (i * slot_size (length store) + used) bytes store)
   unfolding held_by
   still_sound =
-      let x : Option Area = Some (record { number = number; used = used + length bytes }) in
+      let x : Area = record { held = true; number = number; used = used + length bytes } in
       record {
         eight = length-set areas.slots i x ∙ sound.eight;
         within = λ at h.
@@ -157,7 +157,7 @@ module _ (areas : Areas) (number i used : ℕ) (bytes store : List ℕ) (sound :
     other_place : held_at b (held_by areas i number (used + length bytes)).slots ≡ held_at b areas.slots
     unfolding held_at held_by passes
     other_place =
-        first_kept (passes (Some b)) free_slot areas.slots i (Some (record { number = number; used = used + length bytes })) (own b other)
+        first_kept (passes (Some b)) free_slot areas.slots i (record { held = true; number = number; used = used + length bytes }) (own b other)
         (ne_eqb number b (λ e. other (sym e)))
 
     other_bytes : contents b (held_by areas i number (used + length bytes)) (over (i * slot_size (length store) + used) bytes store) ≡ contents b areas store
@@ -229,7 +229,7 @@ fresh_sound store =
           on_test (ltb at slot_count)
           (λ l. get_or-replicate slot_count at free_slot free_slot (ltb-true at slot_count l))
           (λ l. get_or-eq_default (replicate slot_count free_slot) free_slot (ltb-false at slot_count l)) in
-          rw (ap slot_used free) (omega arith);
+          rw (ap (λ (a : Area). a.used) free) (omega arith);
     }
 
 pub fresh_empty : (number : ℕ) (store : List ℕ) → contents number fresh_areas store ≡ none

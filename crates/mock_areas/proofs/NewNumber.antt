@@ -14,7 +14,7 @@ use Rattle.promise.specs.Told.{given, refused}
 use Rattle.promise.specs.Over.{over}
 use Rattle.promise.proofs.Outcome.{on_test}
 use Rattle.promise.proofs.Over.{over_nothing}
-use Rattle.mock_areas.specs.Slots.{slot_count, slot_size, free_slot, slot_at, NotAmong, AllHeld, LowestFree, passes, first_at, held_at, is_held, place, slot_held, slot_number}
+use Rattle.mock_areas.specs.Slots.{slot_count, slot_size, free_slot, slot_at, NotAmong, AllHeld, LowestFree, passes, first_at, held_at, is_held, place}
 use Rattle.mock_areas.specs.Append.{Appending, TakesSlot, held_by, appended_at, append_step, area_told, AppendMeets}
 use Rattle.mock_areas.specs.declared.Area.{Area}
 use Rattle.mock_areas.specs.declared.Areas.{Areas}
@@ -27,34 +27,33 @@ use Rattle.mock_areas.specs.declared.AreaError.{AreaError}
 use Rattle.std.specs.declared.result.Result.TheVariants.{Ok, Err}
 use Rattle.mock_areas.specs.declared.AreaError.TheVariants as area_error
 use Rattle.std.specs.declared.option.Option.TheVariants.{Some, None}
-use Rattle.std.specs.Prelude.{Option}
 
 -- what the two tests of a slot say
-free_is : (area : Option Area) → passes None area ≡ true → slot_held area ≡ false
+free_is : (area : Area) → passes None area ≡ true → area.held ≡ false
 unfolding passes
-free_is area h = not-true (slot_held area) h
+free_is area h = not-true area.held h
 
-held_is : (area : Option Area) → passes None area ≡ false → slot_held area ≡ true
+held_is : (area : Area) → passes None area ≡ false → area.held ≡ true
 unfolding passes
-held_is area h = not-false (slot_held area) h
+held_is area h = not-false area.held h
 
-is_free : (area : Option Area) → slot_held area ≡ false → passes None area ≡ true
+is_free : (area : Area) → area.held ≡ false → passes None area ≡ true
 unfolding passes
 is_free area h = rw h
 
-is_held_lem : (area : Option Area) → slot_held area ≡ true → passes None area ≡ false
+is_held_lem : (area : Area) → area.held ≡ true → passes None area ≡ false
 unfolding passes
 is_held_lem area h = rw h
 
-is_number : (area : Option Area) (number : ℕ) → slot_held area ≡ true → slot_number area ≡ number → passes (Some number) area ≡ true
+is_number : (area : Area) (number : ℕ) → area.held ≡ true → area.number ≡ number → passes (Some number) area ≡ true
 unfolding passes
 is_number area number h e = rw (h, e) (eq-eqb number number refl)
 
-number_is : (area : Option Area) (number : ℕ) → passes (Some number) area ≡ true → (slot_held area ≡ true) × (slot_number area ≡ number)
+number_is : (area : Area) (number : ℕ) → passes (Some number) area ≡ true → (area.held ≡ true) × (area.number ≡ number)
 unfolding passes
 number_is area number h =
-    on_test (slot_held area)
-    (λ t. (t, eqb-true (slot_number area) number (rw t at h)))
+    on_test area.held
+    (λ t. (t, eqb-true area.number number (rw t at h)))
     (λ t. let z : false ≡ true = rw t at h in let n : ◌≡◌ {A = ℕ} 0 1 = cc in absurd (omega arith))
 
 module _ (areas : Areas) (number : ℕ) (eight : length areas.slots ≡ slot_count) where
@@ -162,9 +161,9 @@ module _ (areas : Areas) (number : ℕ) (bytes store after : List ℕ) (r : Area
       (λ t.
       let fits = ltb-false size (length bytes) t in
       let done = appended areas number bytes store p goes here.slot (omega arith) in
-      let x : Option Area = Some (record { number = number; used = length bytes }) in
+      let x : Area = record { held = true; number = number; used = length bytes } in
       let slots : r.areas ≡ record { slots = set areas.slots k x } = meets.next ∙ ap (λ (a : Appending). a.next) done
-      ∙ ap (λ (n : ℕ). record { slots = set areas.slots k (Some (record { number = number; used = n })) }) (zero-add (length bytes)) in
+      ∙ ap (λ (n : ℕ). record { slots = set areas.slots k (record { held = true; number = number; used = n }) }) (zero-add (length bytes)) in
       let inside = here.slot in (
         record {
           own = ap (λ (a : Areas). slot_at a k) slots ∙ get_or-set_same areas.slots k x free_slot (omega arith);

@@ -8,7 +8,7 @@ use lib.ListN.{get_or, replicate}
 use Rattle.promise.specs.Told.{number}
 use Rattle.promise.specs.Rules.{or_refuse}
 use Rattle.promise.specs.Over.{over}
-use Rattle.mock_areas.specs.Slots.{free_slot, fresh_areas, passes, first_at, held_at, place, area_found, slot_held, slot_used}
+use Rattle.mock_areas.specs.Slots.{free_slot, fresh_areas, passes, first_at, held_at, place, area_found}
 use Rattle.mock_areas.specs.Append.{held_by, append_rules, appended_at, append_step, area_told, AppendMeets}
 use Rattle.mock_areas.specs.declared.Area.{Area}
 use Rattle.mock_areas.specs.declared.Areas.{Areas}
@@ -20,7 +20,7 @@ use Rattle.std.specs.declared.result.Result.TheVariants.{Ok, Err}
 use Rattle.mock_areas.specs.declared.AreaError.TheVariants as area_error
 
 -- the first slot, and whether it is held, as a number
-abbrev first_slot : Areas → Option Area
+abbrev first_slot : Areas → Area
 first_slot areas = get_or areas.slots 0 free_slot
 
 abbrev held_number : Bool → ℕ
@@ -38,15 +38,15 @@ unfolding number area_told
 written_told_as_refused n e = omega arith
 
 -- `Areas::new`: a slot held at first
-pub held_at_first : (areas : Areas) → slot_held (first_slot areas) ≡ true → areas ≡ fresh_areas → ⊥
+pub held_at_first : (areas : Areas) → (first_slot areas).held ≡ true → areas ≡ fresh_areas → ⊥
 unfolding fresh_areas
 held_at_first areas held e =
-    let z : ◌≡◌ {A = ℕ} 1 0 = sym (ap held_number held) ∙ ap (λ (a : Areas). held_number (slot_held (first_slot a))) e in omega arith
+    let z : ◌≡◌ {A = ℕ} 1 0 = sym (ap held_number held) ∙ ap (λ (a : Areas). held_number (first_slot a).held) e in omega arith
 
 -- a slot used at first
-pub used_at_first : (areas : Areas) (n : ℕ) → slot_used (first_slot areas) ≡ suc n → areas ≡ fresh_areas → ⊥
+pub used_at_first : (areas : Areas) (n : ℕ) → (first_slot areas).used ≡ suc n → areas ≡ fresh_areas → ⊥
 unfolding fresh_areas
-used_at_first areas n used e = let z : suc n ≡ 0 = sym used ∙ ap (λ (a : Areas). slot_used (first_slot a)) e in omega arith
+used_at_first areas n used e = let z : suc n ≡ 0 = sym used ∙ ap (λ (a : Areas). (first_slot a).used) e in omega arith
 
 -- the second slot held by area 5, with three bytes
 abbrev pub one_held : Areas
@@ -94,7 +94,7 @@ unfolding over append_step or_refuse append_rules appended_at place fresh_areas 
 neighbours_slot r meets = let z : ◌≡◌ {A = ℕ} 0 7 = ap (λ (l : List ℕ). get_or l 0 0) meets.leaves in omega arith
 
 -- a refused write that keeps its slot: no byte goes into slots of no bytes
-pub refusal_keeps_slot : (r : AreaStep) (after : List ℕ) → slot_held (first_slot r.areas) ≡ true → AppendMeets r after (append_step fresh_areas 5 byte []) → ⊥
+pub refusal_keeps_slot : (r : AreaStep) (after : List ℕ) → (first_slot r.areas).held ≡ true → AppendMeets r after (append_step fresh_areas 5 byte []) → ⊥
 unfolding append_step or_refuse append_rules place fresh_areas held_at first_at passes
 refusal_keeps_slot r after held meets =
-    let z : ◌≡◌ {A = ℕ} 1 0 = sym (ap held_number held) ∙ ap (λ (a : Areas). held_number (slot_held (first_slot a))) meets.next in omega arith
+    let z : ◌≡◌ {A = ℕ} 1 0 = sym (ap held_number held) ∙ ap (λ (a : Areas). held_number (first_slot a).held) meets.next in omega arith

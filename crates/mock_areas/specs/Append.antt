@@ -1,5 +1,5 @@
 -- A write to an area.
-use Rattle.std.specs.Prelude.{ℕ, ◌+◌, ◌*◌, ◌≡◌, List, [], ◌∷◌, leb, ltb, length, set}
+use Rattle.std.specs.Prelude.{ℕ, ◌+◌, ◌*◌, ◌≡◌, true, List, [], ◌∷◌, leb, ltb, length, set}
 use Rattle.promise.specs.Told.{Told, given, refused}
 use Rattle.promise.specs.Rules.{Rule, rule, or_refuse}
 use Rattle.promise.specs.Over.{over}
@@ -12,7 +12,6 @@ use Rattle.std.specs.Prelude.{Result}
 use Rattle.mock_areas.specs.declared.AreaError.{AreaError}
 use Rattle.std.specs.declared.result.Result.TheVariants.{Ok, Err}
 use Rattle.mock_areas.specs.declared.AreaError.TheVariants as area_error
-use Rattle.std.specs.declared.option.Option.TheVariants.{Some}
 
 -- what is told, and the slots and the store afterwards
 abbrev pub Appending : Type 0
@@ -20,7 +19,7 @@ Appending = Comes Unit Areas
 
 -- the slot is held by the number, with so many bytes
 unfoldable pub held_by : Areas → ℕ → ℕ → ℕ → Areas
-held_by areas at number used = record { slots = set areas.slots at (Some (record { number = number; used = used })) }
+held_by areas at number used = record { slots = set areas.slots at (record { held = true; number = number; used = used }) }
 
 -- 58: new area number, 8 held; 59: held plus new above the slot
 unfoldable pub append_rules : Place → ℕ → ℕ → List Rule
@@ -62,5 +61,5 @@ pub record AppendMeets (r : AreaStep) (after : List ℕ) (a : Appending) : Type 
 
 -- slot k is held by the number from then on, with so many bytes, and every other slot is as it was
 pub record TakesSlot (k number used : ℕ) (before after : Areas) : Type 0 where
-  pub own : slot_at after k ≡ Some (record { number = number; used = used })
+  pub own : slot_at after k ≡ record { held = true; number = number; used = used }
   pub others : (i : ℕ) → (i ≡ k → ⊥) → slot_at after i ≡ slot_at before i

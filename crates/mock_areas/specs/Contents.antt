@@ -4,7 +4,7 @@ use Rattle.std.proofs.Math.Option.{Option, none, some}
 use Rattle.promise.specs.Told.{Told, given, refused}
 use Rattle.promise.specs.Rules.{pick}
 use Rattle.promise.specs.Bytes.{field}
-use Rattle.mock_areas.specs.Slots.{slot_count, slot_size, free_slot, used_at, area_found, slot_held}
+use Rattle.mock_areas.specs.Slots.{slot_count, slot_size, free_slot, used_at, area_found}
 use Rattle.mock_areas.specs.Append.{Appending, append_step}
 use Rattle.mock_areas.specs.declared.Areas.{Areas}
 use Rattle.mock_areas.specs.declared.Stretch.{Stretch}
@@ -22,7 +22,7 @@ contents number areas store = bytes_at (area_found areas number (length store)) 
 -- what writes from a fresh start keep: eight slots, and no held slot used beyond its size
 pub record Sound (areas : Areas) (store : List ℕ) : Type 0 where
   pub eight : length areas.slots ≡ slot_count
-  pub within : (at : ℕ) → slot_held (get_or areas.slots at free_slot) ≡ true → used_at at areas.slots ≤ slot_size (length store)
+  pub within : (at : ℕ) → (get_or areas.slots at free_slot).held ≡ true → used_at at areas.slots ≤ slot_size (length store)
 
 -- an area's bytes after a write that was told so: nothing where it was refused, else appended, the area being held from then on
 unfoldable pub so_far : Option (List ℕ) → List ℕ

@@ -15,46 +15,33 @@ slot_count = 8
 abbrev pub slot_size : ℕ → ℕ
 slot_size n = n / slot_count
 
-abbrev pub free_slot : Option Area
-free_slot = None
-
--- whether a slot is held, by which number, and how many of its bytes are used; 0 and none where it is free
-abbrev pub slot_held : Option Area → Bool
-slot_held None = false
-slot_held (Some area) = true
-
-abbrev pub slot_number : Option Area → ℕ
-slot_number None = 0
-slot_number (Some area) = area.number
-
-abbrev pub slot_used : Option Area → ℕ
-slot_used None = 0
-slot_used (Some area) = area.used
+abbrev pub free_slot : Area
+free_slot = record { held = false; number = 0; used = 0 }
 
 -- at first every slot is free
 unfoldable pub fresh_areas : Areas
 fresh_areas = record { slots = replicate slot_count free_slot }
 
 -- slot i of a record; a free one where there is none
-abbrev pub slot_at : Areas → ℕ → Option Area
+abbrev pub slot_at : Areas → ℕ → Area
 slot_at areas i = get_or areas.slots i free_slot
 
 -- no slot is held by the number; all eight are held; k is the lowest slot that is free
 abbrev pub NotAmong : ℕ → Areas → Type 0
-NotAmong number areas = (i : ℕ) → i < slot_count → slot_held (slot_at areas i) ≡ true → slot_number (slot_at areas i) ≡ number → ⊥
+NotAmong number areas = (i : ℕ) → i < slot_count → (slot_at areas i).held ≡ true → (slot_at areas i).number ≡ number → ⊥
 
 abbrev pub AllHeld : Areas → Type 0
-AllHeld areas = (i : ℕ) → i < slot_count → slot_held (slot_at areas i) ≡ true
+AllHeld areas = (i : ℕ) → i < slot_count → (slot_at areas i).held ≡ true
 
 pub record LowestFree (k : ℕ) (areas : Areas) : Type 0 where
   pub slot : k < slot_count
-  pub free : slot_held (slot_at areas k) ≡ false
-  pub below : (i : ℕ) → i < k → slot_held (slot_at areas i) ≡ true
+  pub free : (slot_at areas k).held ≡ false
+  pub below : (i : ℕ) → i < k → (slot_at areas i).held ≡ true
 
 -- whether a slot is free, or held by this number
-unfoldable pub passes : Option ℕ → Option Area → Bool
-passes None area = not (slot_held area)
-passes (Some n) area = pick (slot_held area) (eqb (slot_number area) n) false
+unfoldable pub passes : Option ℕ → Area → Bool
+passes None area = not area.held
+passes (Some n) area = pick area.held (eqb area.number n) false
 
 -- the lowest place that passes a test; the list's length where none does
 unfoldable pub first_at : {A : Type 0} → (A → Bool) → List A → ℕ
@@ -62,17 +49,17 @@ first_at test [] = zero
 first_at test (a ∷ rest) = pick (test a) zero (suc (first_at test rest))
 
 -- the slot that holds the number, and how many bytes it has
-unfoldable pub held_at : ℕ → List (Option Area) → ℕ
+unfoldable pub held_at : ℕ → List Area → ℕ
 held_at number slots = first_at (passes (Some number)) slots
 
-abbrev pub is_held : ℕ → List (Option Area) → Bool
+abbrev pub is_held : ℕ → List Area → Bool
 is_held number slots = ltb (held_at number slots) slot_count
 
-abbrev pub used_at : ℕ → List (Option Area) → ℕ
-used_at at slots = slot_used (get_or slots at free_slot)
+abbrev pub used_at : ℕ → List Area → ℕ
+used_at at slots = (get_or slots at free_slot).used
 
 -- where a write goes: behind what its slot holds; a new area number takes the lowest free slot, from its start
-unfoldable pub place : ℕ → List (Option Area) → Place
+unfoldable pub place : ℕ → List Area → Place
 place number slots =
     pick (is_held number slots)
     (record { slot = held_at number slots; used = used_at (held_at number slots) slots })

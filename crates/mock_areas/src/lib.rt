@@ -3,24 +3,25 @@
 #![tactic(auto)]
 
 ghost use Rattle.std.specs.Prelude.{◌≡◌, ◌+◌, ◌<◌, leb, length};
-ghost use Rattle.mock_areas.specs.Slots.{slot_used, passes, first_at, place, among_slots, place_among, fresh_areas, area_found};
+ghost use Rattle.mock_areas.specs.Slots.{passes, first_at, place, among_slots, place_among, fresh_areas, area_found};
 ghost use Rattle.mock_areas.specs.Append.{held_by, AppendMeets, append_step, area_error_number};
 
 use rule_number::RuleNumber;
 
 const SLOTS: usize = 8;
 
-// What a slot is held by: an area's number, and how many of the slot's bytes are used.
+// A slot: while it is held, by which number, and how many of its bytes are used. A free slot's number and count mean nothing.
+// Stays a flag beside them: a caller may hand in any record, and an Option can't hold what a free slot has left over.
 #[derive(Clone, Copy, Debug, PartialEq, Eq)]
 pub struct Area {
+    pub held: bool,
     pub number: u16,
     pub used: usize,
 }
 
-// The slots, of which a free one is none.
 #[derive(Clone, Copy)]
 pub struct Areas {
-    pub slots: [Option<Area>; 8],
+    pub slots: [Area; 8],
 }
 
 // Where an area's next bytes go: behind those that are used in its slot.
@@ -65,24 +66,17 @@ pub struct AreaStep {
 
 // Whether a slot is held by this number, or free where none is wanted.
 #[tactic(auto, unfolding(crate::specs::Slots::passes))]
-fn fits(slot: Option<Area>, wanted: Option<u16>) -> bool
-    ensures { result ≡ passes wanted slot }
+fn fits(area: Area, wanted: Option<u16>) -> bool
+    ensures { result ≡ passes wanted area }
 {
-    slot.map(|area| area.number) == wanted
-}
-
-#[tactic(auto, unfolding(crate::specs::Slots::slot_used))]
-fn used(slot: Option<Area>) -> usize
-    ensures { result ≡ slot_used slot }
-{
-    slot.map_or(0, |area| area.used)
+    area.held.then_some(area.number) == wanted
 }
 
 // The first slot that is as wanted.
-fn first(slots: [Option<Area>; 8], wanted: Option<u16>) -> Option<usize>
+fn first(slots: [Area; 8], wanted: Option<u16>) -> Option<usize>
     ensures { result ≡ among_slots (first_at (passes wanted) slots) }
 {
-    slots.iter().position(|&slot| fits(slot, wanted))
+    slots.iter().position(|&area| fits(area, wanted))
 }
 
 // Whether `more` bytes fit behind those that are used.
@@ -96,7 +90,12 @@ impl Areas {
     pub fn new() -> Areas
         ensures { result ≡ fresh_areas }
     {
-        Areas { slots: [None; 8] }
+        let free = Area {
+            held: false,
+            number: 0,
+            used: 0,
+        };
+        Areas { slots: [free; 8] }
     }
 
     fn place(self, number: u16) -> Option<Place>
@@ -106,7 +105,7 @@ impl Areas {
         if let Some(slot) = first(slots, Some(number)) {
             return Some(Place {
                 slot,
-                used: used(slots[slot]),
+                used: slots[slot].used,
             });
         }
         let slot = first(slots, None)?;
@@ -120,7 +119,7 @@ impl Areas {
         let at = first(slots, Some(number))?;
         Some(Stretch {
             start: at * (store_length / SLOTS),
-            length: used(slots[at]),
+            length: slots[at].used,
         })
     }
 
@@ -129,7 +128,11 @@ impl Areas {
         requires { at < 8 }
         ensures { result ≡ held_by self at number used }
     {
-        self.slots[at] = Some(Area { number, used });
+        self.slots[at] = Area {
+            held: true,
+            number,
+            used,
+        };
         self
     }
 

@@ -22,12 +22,12 @@ fn area<W: Write>(out: &mut W, areas: Areas, number: u16, store: &[u8]) -> Resul
 // How many areas are held, and these in ascending order.
 fn areas<W: Write>(out: &mut W, areas: Areas, store: &[u8]) -> Result<()> {
     let mut slots = areas.slots;
-    slots.sort_unstable_by_key(|slot| slot.map(|area| area.number));
-    let held = slots.iter().filter(|slot| slot.is_some()).count();
+    slots.sort_unstable_by_key(|slot| slot.number);
+    let held = slots.iter().filter(|slot| slot.held).count();
     write!(out, " | {held}")?;
     for slot in slots {
-        if let Some(held) = slot {
-            area(out, areas, held.number, store)?;
+        if slot.held {
+            area(out, areas, slot.number, store)?;
         }
     }
     Ok(())

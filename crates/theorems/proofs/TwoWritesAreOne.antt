@@ -2,6 +2,7 @@
 -- bytes.
 use Prim.Native.Nat.{ℕ, ◌+◌, ◌*◌, ◌<◌, ◌≤◌}
 use mathlib.Core.Path.{◌≡◌, refl, ap, ap₂, sym, ◌∙◌}
+use mathlib.Core.Bool.{true}
 use mathlib.Core.List.{List, ◌++◌, append_assoc}
 use native.Mathlib.Nat.{add_assoc}
 use native.Mathlib.Omega.{arith}
@@ -15,13 +16,12 @@ use Rattle.promise.proofs.Outcome.{by_test, passed}
 use Rattle.mock_areas.specs.declared.Area.{Area}
 use Rattle.mock_areas.specs.declared.Areas.{Areas}
 use Rattle.mock_areas.specs.declared.Place.{Place}
-use Rattle.mock_areas.specs.Slots.{slot_count, slot_size, free_slot, slot_used, passes, held_at, is_held, used_at, place}
+use Rattle.mock_areas.specs.Slots.{slot_count, slot_size, free_slot, passes, held_at, is_held, used_at, place}
 use Rattle.mock_areas.specs.Append.{Appending, held_by, append_rules, refused_append, appended_at, append_step}
 use Rattle.mock_areas.proofs.Search.{first_set}
 use Rattle.mock_areas.proofs.Room.{slot_inside}
 use Rattle.mock_areas.proofs.Cases.{appended}
 use Rattle.std.specs.declared.option.Option.TheVariants.{Some}
-use Rattle.std.specs.Prelude.{Option}
 
 -- bytes put behind bytes that were just put
 over_join : (at : ℕ) (xs ys before : List ℕ) → at + length xs ≤ length before → over (at + length xs) ys (over at xs before) ≡ over at (xs ++ ys) before
@@ -53,20 +53,20 @@ accepted areas number bytes store e =
     record { slot = leb-false slot_count p.slot met.0.0; room = ltb-false (slot_size (length store)) (p.used + length bytes) met.0.1.0; step = met.1 }
 
 -- the number is found where its bytes went
-module _ (number : ℕ) (slots : List (Option Area)) (eight : length slots ≡ slot_count) (used : ℕ) (slot : (place number slots).slot < slot_count) where
+module _ (number : ℕ) (slots : List Area) (eight : length slots ≡ slot_count) (used : ℕ) (slot : (place number slots).slot < slot_count) where
   not_behind : (place number slots).slot ≤ held_at number slots
   unfolding place
   not_behind =
       by_test (λ (q : Place). q.slot < slot_count → q.slot ≤ held_at number slots) (is_held number slots) (λ e h. omega arith)
       (λ e h. omega (arith, ltb-false (held_at number slots) slot_count e)) slot
 
-  found_there : place number (set slots (place number slots).slot (Some (record { number = number; used = used }))) ≡ record { slot = (place number slots).slot; used = used }
+  found_there : place number (set slots (place number slots).slot (record { held = true; number = number; used = used })) ≡ record { slot = (place number slots).slot; used = used }
   unfolding place held_at passes
   found_there =
       let i = (place number slots).slot in
-      let x : Option Area = Some (record { number = number; used = used }) in
+      let x : Area = record { held = true; number = number; used = used } in
       let here : held_at number (set slots i x) ≡ i = first_set (passes (Some number)) free_slot slots i x (omega arith) not_behind (eq-eqb number number refl) in
-      let count : used_at i (set slots i x) ≡ used = ap slot_used (get_or-set_same slots i x free_slot (omega arith)) in
+      let count : used_at i (set slots i x) ≡ used = ap (λ (a : Area). a.used) (get_or-set_same slots i x free_slot (omega arith)) in
       rw (here, lt-ltb i slot_count slot, count)
 
 -- what the second makes of the slots and the store that the first left
@@ -79,13 +79,13 @@ as_one areas p number xs ys store inside =
     let i = p.slot in
     let at = i * slot_size (length store) + p.used in
     let kept = over at xs store in
-    let holds : ℕ → Option Area = λ n. Some (record { number = number; used = n }) in
+    let holds : ℕ → Area = λ n. record { held = true; number = number; used = n } in
     let count : p.used + length xs + length ys ≡ p.used + length (xs ++ ys) =
     add_assoc p.used (length xs) (length ys) ∙ ap (λ (n : ℕ). p.used + n) (sym (length-append xs ys)) in
     let slots = set-set areas.slots i (holds (p.used + length xs)) (holds (p.used + length xs + length ys)) ∙ ap (λ (n : ℕ). set areas.slots i (holds n)) count in
     let behind : i * slot_size (length kept) + (p.used + length xs) ≡ at + length xs =
     ap (λ (n : ℕ). i * slot_size n + (p.used + length xs)) (length_over at xs store inside) ∙ sym (add_assoc (i * slot_size (length store)) p.used (length xs)) in
-    ap₂ (λ (l : List (Option Area)) (after : List ℕ). record { told = given tt; next = record { slots = l }; leaves = after }) slots
+    ap₂ (λ (l : List Area) (after : List ℕ). record { told = given tt; next = record { slots = l }; leaves = after }) slots
     (ap (λ (n : ℕ). over n ys kept) behind ∙ over_join at xs ys store inside)
 
 pub joined : (areas : Areas) (number : ℕ) (xs ys store : List ℕ) → length areas.slots ≡ slot_count

@@ -1,8 +1,6 @@
 -- The slot that holds the number, and where it starts.
-use Prim.Native.Nat.{ℕ, ◌*◌, ◌<◌}
-use mathlib.Core.Path.{ap, sym, ◌∙◌}
-use Rattle.std.specs.declared.option.Option.TheVariants.{Some}
-use Rattle.mock_areas.specs.Slots.{slot_size}
+use Prim.Native.Nat.{◌<◌}
+use mathlib.Core.Path.{sym, ◌∙◌}
 use native.Mathlib.Omega.{arith}
 use Rattle.mock_areas.proofs.Room.{slot_inside}
 use Rattle.mock_areas.proofs.Finding.{among_below, not_found, found}
@@ -26,5 +24,4 @@ bounds-slots-at c = below (goal.at.bounds-slots-at c).In_ok-at
 
 pub returns : goal.returns
 returns c =
-    ap (λ (n : ℕ). Some (record { start = c.in_ok-at.at * slot_size c.args.store_length; length = n })) c.used.ensures
-    ∙ sym (found c.args.self c.args.number c.args.store_length c.in_ok-at.at (sym c.first.ensures ∙ c.in_ok-at.was))
+    sym (found c.args.self c.args.number c.args.store_length c.in_ok-at.at (sym c.first.ensures ∙ c.in_ok-at.was))

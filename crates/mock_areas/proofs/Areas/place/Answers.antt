@@ -1,7 +1,5 @@
 -- The slot that holds the number where there is one, else the first that is free.
-use Prim.Native.Nat.{ℕ}
-use mathlib.Core.Path.{ap, sym, ◌∙◌}
-use Rattle.std.specs.declared.option.Option.TheVariants.{Some}
+use mathlib.Core.Path.{sym, ◌∙◌}
 use native.Mathlib.Omega.{arith}
 use Rattle.mock_areas.proofs.Finding.{among_below, placed_held, placed_free, placed_nowhere}
 use Rattle.mock_areas.proofs.Areas.place.Goals as goal
@@ -14,8 +12,7 @@ bounds-slots-slot c = among_below _ c.in-Some.slot (sym c.first.ensures ∙ c.in
 
 pub returns-in-Some : goal.returns-in-Some
 returns-in-Some c =
-    ap (λ (n : ℕ). Some (record { slot = c.in-Some.slot; used = n })) c.used.ensures
-    ∙ sym (placed_held c.args.number c.args.self.slots c.in-Some.slot (sym c.first.ensures ∙ c.in-Some.is))
+    sym (placed_held c.args.number c.args.self.slots c.in-Some.slot (sym c.first.ensures ∙ c.in-Some.is))
 
 pub returns-in_err-slot : goal.returns-in_err-slot
 returns-in_err-slot c =
