@@ -5,13 +5,14 @@
 use deck::bench::Bench;
 use deck_chunk::Deck;
 use deck_io::complaint::say;
-use deck_io::input::{End, fill, usable_bytes};
+use deck_io::input::{fill, usable_bytes};
 use deck_io::output::write_out;
 use deck_io::within;
 use std::io::{Read, Write};
 use std::ops::ControlFlow;
 
 // A deck on its way, chunk by chunk. There is room for the lines of every block of a chunk, so that it is not refused.
+// Flash and store are lent by main from call to call, so that they stand once on the stack.
 #[derive(Drop)]
 struct Run<R: Drop, W: Drop, E: Drop> {
     from: R,
@@ -19,8 +20,6 @@ struct Run<R: Drop, W: Drop, E: Drop> {
     errors: E,
     chunk: [u8; 8192],
     lines: [u8; 1024],
-    flash: [u8; 65536],
-    store: [u8; 65536],
     deck: Deck,
 }
 
@@ -55,14 +54,16 @@ impl<R: Read + Drop, W: Write + Drop, E: Write + Drop> Run<R, W, E> {
     }
 
     // The blocks in the chunk's first bytes.
-    fn deal_and_print(&mut self, bytes: usize) -> ControlFlow<()> {
+    fn deal_and_print(
+        &mut self,
+        bytes: usize,
+        flash: &mut [u8; 65536],
+        store: &mut [u8; 65536],
+    ) -> ControlFlow<()> {
         let used = within(bytes, &self.chunk);
-        let step = self.deck.deal_chunk(
-            &self.chunk[..used],
-            &mut self.lines,
-            &mut self.flash,
-            &mut self.store,
-        );
+        let step = self
+            .deck
+            .deal_chunk(&self.chunk[..used], &mut self.lines, flash, store);
         self.deck = step.deck;
         let Ok(count) = step.answer else {
             say(
@@ -75,22 +76,22 @@ impl<R: Read + Drop, W: Write + Drop, E: Write + Drop> Run<R, W, E> {
     }
 
     // Goes on where there may be more of the deck.
-    fn deal_once(&mut self) -> ControlFlow<()> {
+    fn deal_once(&mut self, flash: &mut [u8; 65536], store: &mut [u8; 65536]) -> ControlFlow<()> {
         let input = fill(
             &mut self.from,
             &mut self.errors,
             &mut self.chunk,
             b"bench: the deck could not be read on",
         );
-        let printed = self.deal_and_print(usable_bytes(input));
-        if input.end == Some(End::Failed) {
+        let printed = self.deal_and_print(usable_bytes(input), flash, store);
+        if input.has_failed {
             self.say_unread();
         }
         printed?;
-        match input.end {
-            None => ControlFlow::Continue(()),
-            Some(_) => ControlFlow::Break(()),
+        if input.is_over {
+            return ControlFlow::Break(());
         }
+        ControlFlow::Continue(())
     }
 }
 
@@ -98,7 +99,7 @@ impl<R: Read + Drop, W: Write + Drop, E: Write + Drop> Run<R, W, E> {
 fn main(rt: HostRuntime) {
     let mut errors = rt.stderr();
     let mut flash = [0; 65536];
-    let store = [0; 65536];
+    let mut store = [0; 65536];
     let start = Bench::new(&mut flash, &store);
     if start.answer.result.is_err() {
         say(
@@ -113,12 +114,10 @@ fn main(rt: HostRuntime) {
         errors,
         chunk: [0; 8192],
         lines: [0; 1024],
-        flash,
-        store,
         deck: Deck::new(start.bench),
     };
     for _ in 0..u64::MAX {
-        if run.deal_once().is_break() {
+        if run.deal_once(&mut flash, &mut store).is_break() {
             return;
         }
     }

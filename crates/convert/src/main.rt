@@ -4,7 +4,7 @@
 
 use deck_convert::Convert;
 use deck_io::complaint::say;
-use deck_io::input::{End, fill, usable_bytes};
+use deck_io::input::{Input, fill, usable_bytes};
 use deck_io::output::write_out;
 use deck_io::within;
 use std::io::{Read, Write};
@@ -80,11 +80,14 @@ impl<R: Read + Drop, W: Write + Drop, E: Write + Drop> Run<R, W, E> {
     }
 
     // Goes on where there may be more of the deck. Where there is none, standard error says how it ended.
-    fn goes_on(&mut self, end: Option<End>, rest: usize) -> ControlFlow<()> {
-        match end {
-            None => return ControlFlow::Continue(()),
-            Some(End::Failed) => say_unread(&mut self.errors, self.blocks),
-            Some(End::Over) => say_done(&mut self.errors, self.convert, rest),
+    fn goes_on(&mut self, input: Input, rest: usize) -> ControlFlow<()> {
+        if !input.is_over {
+            return ControlFlow::Continue(());
+        }
+        if input.has_failed {
+            say_unread(&mut self.errors, self.blocks);
+        } else {
+            say_done(&mut self.errors, self.convert, rest);
         }
         ControlFlow::Break(())
     }
@@ -100,7 +103,7 @@ impl<R: Read + Drop, W: Write + Drop, E: Write + Drop> Run<R, W, E> {
         self.convert = self.convert.convert_chunk(&mut self.chunk[..used]);
         self.blocks = self.blocks.wrapping_add((used / BLOCK) as u64);
         self.write_first(used)?;
-        self.goes_on(input.end, used % BLOCK)
+        self.goes_on(input, used % BLOCK)
     }
 }
 

@@ -1,7 +1,9 @@
 -- Programs that the contracts of `within`, `usable_bytes`, `fill` and `write_out` rule out, whatever their proofs.
 use Rattle.std.proofs.Common.{ℕ, min, ◌≡◌, refl, true, false, arith}
+use Rattle.std.specs.declared.result.Result.TheVariants.{Ok, Err}
 use Rattle.deck_io.specs.Moved.{Moved, EndsIf}
 use Rattle.deck_io.specs.Input.{usable_bytes}
+use Rattle.deck_io.specs.Output.{is_shut, written}
 
 -- of 612 bytes that were read: those behind the last whole block used, and so told as 44, where the deck need not end there
 pub partial_block_used : (n : ℕ) → n ≡ 612 → n ≡ usable_bytes true 612 → ⊥
@@ -26,9 +28,17 @@ cut_after_a_read m = let e = m.1 refl in omega arith
 pub rest_not_written : Moved false 512 8192 → ⊥
 rest_not_written m = let e = m.1 refl in omega arith
 
+-- the same in the words of the answer: `Ok`, and so the output takes more, with the rest not written
+pub rest_answered_as_written : Moved (is_shut (Ok 512)) (written (Ok 512)) 8192 → ⊥
+rest_answered_as_written m = let e = m.1 refl in omega arith
+
 -- more bytes told as read or written than there are, at the end as well
 pub more_than_all : Moved true 8193 8192 → ⊥
 more_than_all m = let fits = m.0 in omega arith
+
+-- and in the words of the answer
+pub more_answered_as_written : Moved (is_shut (Err (record { 0 = 8193 }))) (written (Err (record { 0 = 8193 }))) 8192 → ⊥
+more_answered_as_written m = let fits = m.0 in omega arith
 
 -- a read that has failed taken for one of many: the blocks behind the gap would be told with the numbers of those that are lost
 pub read_on_behind_a_gap : EndsIf true false → ⊥

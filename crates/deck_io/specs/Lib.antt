@@ -1,5 +1,5 @@
--- `Moved` has how many bytes a chunk of input or output came to, `Input` how an input ended and how many of the bytes that were read are used, `Output`
--- what a write answers, `Counts` what a count of a slice's bytes is.
+-- `Moved` has how many bytes a chunk of input or output came to, `Input` how many of those that were read are used, `Output` what a write answers,
+-- `Counts` what a count of a slice's bytes is.
 pub mod Moved
 pub mod Input
 pub mod Output

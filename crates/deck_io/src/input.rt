@@ -1,8 +1,8 @@
 // Standard input in chunks of whole blocks, whatever the reads bring.
-ghost use Rattle.std.specs.Prelude.{◌≡◌};
+ghost use Rattle.std.specs.Prelude.{◌≡◌, length};
 ghost use Rattle.std.specs.Io.{ReadsAtMost};
 ghost use Rattle.deck_io.specs.Moved.{Moved, EndsIf};
-ghost use Rattle.deck_io.specs.Input.{is_over, has_failed, usable_bytes};
+ghost use Rattle.deck_io.specs.Input.{usable_bytes};
 
 use crate::MOST_TRIES;
 use crate::complaint::complain_why;
@@ -10,19 +10,13 @@ use std::io::{ErrorKind, Read, Result, Write};
 
 const BLOCK: usize = 512;
 
-// How an input ended: it is over, or could not be read on.
-// Stays an enum of two: after a failed read the whole blocks before it still count.
-#[derive(Clone, Copy, Debug, PartialEq, Eq)]
-pub enum End {
-    Over,
-    Failed,
-}
-
-// How many bytes of the chunk were read, and how the input ended where there is no more of it.
+// How many bytes of the chunk were read, and whether the input is over or could not be read on.
+// Stays a record of two flags: a caller may hand in any, and the contracts are over them.
 #[derive(Clone, Copy, Debug, PartialEq, Eq)]
 pub struct Input {
     pub count: usize,
-    pub end: Option<End>,
+    pub is_over: bool,
+    pub has_failed: bool,
 }
 
 // A read that a signal interrupts is made again, though not for ever.
@@ -40,14 +34,9 @@ fn read_some<R: Read>(from: &mut R, rest: &mut [u8]) -> Result<usize>
 }
 
 // Fills the chunk, up to the end of the input. Where a read fails, `what` is said before the system's reason.
-pub fn fill<R: Read, E: Write>(
-    from: &mut R,
-    errors: &mut E,
-    chunk: &mut [u8; 8192],
-    what: &[u8],
-) -> Input
-    ensures moved { Moved (is_over result.end) result.count 8192 }
-    ensures ends_if { EndsIf (has_failed result.end) (is_over result.end) }
+pub fn fill<R: Read, E: Write>(from: &mut R, errors: &mut E, chunk: &mut [u8], what: &[u8]) -> Input
+    ensures moved { Moved result.is_over result.count (length chunk.old) }
+    ensures ends_if { EndsIf result.has_failed result.is_over }
 {
     let mut count = 0;
     // Stays a `while`: each read says how far it came.
@@ -56,7 +45,8 @@ pub fn fill<R: Read, E: Write>(
             Ok(0) => {
                 return Input {
                     count,
-                    end: Some(End::Over),
+                    is_over: true,
+                    has_failed: false,
                 };
             }
             Ok(more) => count += more,
@@ -64,12 +54,17 @@ pub fn fill<R: Read, E: Write>(
                 complain_why(errors, what, why);
                 return Input {
                     count,
-                    end: Some(End::Failed),
+                    is_over: true,
+                    has_failed: true,
                 };
             }
         }
     }
-    Input { count, end: None }
+    Input {
+        count,
+        is_over: false,
+        has_failed: false,
+    }
 }
 
 // Fills a buffer of any length, up to the end of the input, and answers how many bytes came. A read that fails is the answer.
@@ -91,10 +86,11 @@ pub fn read_full<R: Read>(from: &mut R, buffer: &mut [u8]) -> Result<usize>
 // All that was read; where a read failed, its whole blocks, since the one behind them need not be the deck's last.
 #[tactic(auto, unfolding(crate::specs::Input::usable_bytes))]
 pub fn usable_bytes(input: Input) -> usize
-    ensures { result ≡ usable_bytes (has_failed input.end) input.count }
+    ensures { result ≡ usable_bytes input.has_failed input.count }
 {
-    match input.end {
-        Some(End::Failed) => input.count / BLOCK * BLOCK,
-        _ => input.count,
+    if input.has_failed {
+        input.count / BLOCK * BLOCK
+    } else {
+        input.count
     }
 }

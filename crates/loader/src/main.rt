@@ -3,7 +3,7 @@
 #![tactic(auto)]
 
 use deck_io::complaint::{complain_why, say};
-use deck_io::input::read_full;
+use deck_io::input::fill;
 use loader_text::list;
 use std::io::{Read, Write};
 
@@ -21,21 +21,21 @@ fn list_file<W: Write, E: Write>(to: &mut W, errors: &mut E, file: &[u8]) {
     }
 }
 
+// `fill` says that fewer bytes than there is room for are the last, so that one call has the whole file.
 fn run<R: Read, W: Write, E: Write>(
     from: &mut R,
     to: &mut W,
     errors: &mut E,
     file: &mut [u8; 4202496],
 ) {
-    match read_full(from, file) {
-        Ok(count) => list_file(to, errors, &file[..count]),
-        Err(why) => {
-            complain_why(errors, b"loader: the file could not be read on", why);
-            say(
-                errors,
-                "loader: nothing is listed; see that the whole file can be read, and list it again",
-            );
-        }
+    let input = fill(from, errors, file, b"loader: the file could not be read on");
+    if input.has_failed {
+        say(
+            errors,
+            "loader: nothing is listed; see that the whole file can be read, and list it again",
+        );
+    } else {
+        list_file(to, errors, &file[..input.count]);
     }
 }
 

@@ -3,7 +3,7 @@
 #![tactic(auto)]
 
 use deck_io::complaint::say;
-use deck_io::input::{End, fill, usable_bytes};
+use deck_io::input::{Input, fill, usable_bytes};
 use deck_io::output::write_out;
 use deck_io::within;
 use deck_recheck::{Recheck, Stop};
@@ -83,7 +83,7 @@ impl<R: Read + Drop, W: Write + Drop, E: Write + Drop> Run<R, W, E> {
     }
 
     // Goes on where there may be more of the deck. Where it ends before its end, standard error says why.
-    fn goes_on(&mut self, end: Option<End>) -> ControlFlow<()> {
+    fn goes_on(&mut self, input: Input) -> ControlFlow<()> {
         let number = self.recheck.number;
         match self.recheck.stop {
             Some(Stop::BadCheck) => {
@@ -94,14 +94,12 @@ impl<R: Read + Drop, W: Write + Drop, E: Write + Drop> Run<R, W, E> {
                 say_short(&mut self.errors, number);
                 ControlFlow::Break(())
             }
-            None => match end {
-                Some(End::Failed) => {
-                    say_unread(&mut self.errors, number);
-                    ControlFlow::Break(())
-                }
-                Some(End::Over) => ControlFlow::Break(()),
-                None => ControlFlow::Continue(()),
-            },
+            None if input.has_failed => {
+                say_unread(&mut self.errors, number);
+                ControlFlow::Break(())
+            }
+            None if input.is_over => ControlFlow::Break(()),
+            None => ControlFlow::Continue(()),
         }
     }
 
@@ -116,7 +114,7 @@ impl<R: Read + Drop, W: Write + Drop, E: Write + Drop> Run<R, W, E> {
         let step = self.recheck.recheck_chunk(&mut self.chunk[..used]);
         self.recheck = step.recheck;
         self.write_first(step.bytes)?;
-        self.goes_on(input.end)
+        self.goes_on(input)
     }
 }
 
