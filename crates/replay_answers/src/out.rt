@@ -21,6 +21,14 @@ impl<'a, W: Write> Output<'a, W> {
         self.len = 0;
         self.to.write_all(first_mut(len, self.buffer))
     }
+
+    // Behind a line: all that waits is written out, where it is more than half of the buffer. So whole lines are written at a time.
+    pub fn after_line(&mut self) -> Result<()> {
+        if self.len > self.buffer.len() / 2 {
+            self.write_out()?;
+        }
+        Ok(())
+    }
 }
 
 impl<W: Write> Write for Output<'_, W> {

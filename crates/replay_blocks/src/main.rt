@@ -13,7 +13,7 @@ use replay_answers::told::Told;
 use replay_answers::values::storage;
 use replay_lines::buffer::{first, first_mut};
 use replay_lines::data::LEN;
-use replay_lines::input::Input;
+use replay_lines::input::Lines;
 use replay_lines::names::Call;
 use replay_lines::tokens::Tokens;
 use replay_replies::{numbers, replies};
@@ -104,14 +104,15 @@ fn main(rt: HostRuntime) -> Result<()> {
     let mut buffer = [0u8; 65536];
     let mut data = [0u8; 65536];
     let mut room = [0u8; 65536];
-    let mut input = Input::new(rt.stdin(), &mut block);
+    let mut lines = Lines::new(rt.stdin(), &mut block);
     let mut out = Output::new(rt.stdout(), &mut buffer);
     // a proved loop has to end, and nothing says that the input does: no run uses up so many turns
     for _ in 0..u64::MAX {
-        let Some(line) = input.next_line(&mut line) else {
+        let Some(line) = lines.next_line(&mut line) else {
             break;
         };
         print_line(&mut out, answer(line, &mut data, &mut room), &room)?;
+        out.after_line()?;
     }
     out.flush()
 }

@@ -11,7 +11,7 @@ use mock_base::error::MockTransportError;
 use printed::{block, device};
 use replay_answers::out::Output;
 use replay_lines::buffer::first;
-use replay_lines::input::Input;
+use replay_lines::input::Lines;
 use replay_lines::names::Call;
 use replay_lines::tokens::Tokens;
 use std::io::{self, Write};
@@ -110,15 +110,16 @@ fn main(rt: HostRuntime) -> io::Result<()> {
     let mut flash = [0u8; 65536];
     let mut store = [0u8; 65536];
     let mut table = Table::new(&mut flash, &mut store);
-    let mut input = Input::new(rt.stdin(), &mut chunk);
+    let mut lines = Lines::new(rt.stdin(), &mut chunk);
     let mut out = Output::new(rt.stdout(), &mut buffer);
     // a proved loop has to end, and nothing says that the input does: no run uses up so many turns
     for _ in 0..u64::MAX {
-        let Some(line) = input.next_line(&mut line) else {
+        let Some(line) = lines.next_line(&mut line) else {
             break;
         };
         answer(&mut out, line, &mut table, &mut data)?;
         out.write_all(b"\n")?;
+        out.after_line()?;
     }
     out.flush()
 }

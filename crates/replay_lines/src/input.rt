@@ -2,43 +2,52 @@
 use crate::buffer::{behind, behind_mut, copy, first};
 use std::io::Read;
 
-// The reader, and the block that was read last, of which what stands from `start` to `end` is not cut up yet.
-// Stays a buffer with its places: nothing here allocates.
-#[derive(Drop)]
-pub struct Input<'a, R> {
-    from: R,
-    block: &'a mut [u8],
+// What of the block that was read last is not cut up yet: what stands from `start` to `end`.
+#[derive(Clone, Copy, Debug, PartialEq, Eq)]
+pub struct Input {
     start: usize,
     end: usize,
 }
 
-impl<'a, R: Read> Input<'a, R> {
-    pub fn new(from: R, block: &'a mut [u8]) -> Input<'a, R> {
-        Input {
+// Nothing was read yet.
+pub fn start() -> Input {
+    Input { start: 0, end: 0 }
+}
+
+// The reader, the block that was read last, and what of it is left.
+// Stays a buffer with its places: nothing here allocates.
+#[derive(Drop)]
+pub struct Lines<'a, R> {
+    from: R,
+    block: &'a mut [u8],
+    left: Input,
+}
+
+impl<'a, R: Read> Lines<'a, R> {
+    pub fn new(from: R, block: &'a mut [u8]) -> Lines<'a, R> {
+        Lines {
             from,
             block,
-            start: 0,
-            end: 0,
+            left: start(),
         }
     }
 
     // Whether there is more. A read that fails ends the input, as one that brings nothing does.
     fn read_on(&mut self) -> bool {
-        self.start = 0;
-        self.end = self.from.read(self.block).unwrap_or(0);
-        self.end > 0
+        let end = self.from.read(self.block).unwrap_or(0);
+        self.left = Input { start: 0, end };
+        end > 0
     }
 
     // Bytes of the block go to the rest of a line, up to a line feed: how many, and whether the line feed was there. A line that is too long fills
     // its buffer.
     fn take(&mut self, rest: &mut [u8]) -> (usize, bool) {
-        let start = self.start;
-        let end = self.end;
+        let Input { start, end } = self.left;
         let left = behind(start, first(end, self.block));
         let found = left.iter().position(|byte| *byte == b'\n');
         let n = found.unwrap_or(left.len());
         let taken = copy(&left[..n], rest);
-        self.start = start.wrapping_add(n).wrapping_add(1);
+        self.left.start = start.wrapping_add(n).wrapping_add(1);
         (taken, found.is_some())
     }
 
@@ -46,7 +55,7 @@ impl<'a, R: Read> Input<'a, R> {
     fn read_line(&mut self, line: &mut [u8]) -> Option<usize> {
         let mut len = 0usize;
         for _ in 0..u64::MAX {
-            if self.start >= self.end && !self.read_on() {
+            if self.left.start >= self.left.end && !self.read_on() {
                 break;
             }
             let (taken, is_whole) = self.take(behind_mut(len, line));

@@ -14,7 +14,7 @@ use loader_walk::data_of;
 use loader_walk::whole::examine;
 use replay_answers::out::{Output, bytes};
 use replay_lines::buffer::{behind_mut, copy, first, first_mut};
-use replay_lines::input::Input;
+use replay_lines::input::Lines;
 use replay_records::{shown, told, walked};
 use std::io::{Result, Write};
 
@@ -135,14 +135,15 @@ fn main(rt: HostRuntime) -> Result<()> {
         buffer: &mut held,
         len: 0,
     };
-    let mut input = Input::new(rt.stdin(), &mut block);
+    let mut lines = Lines::new(rt.stdin(), &mut block);
     let mut out = Output::new(rt.stdout(), &mut buffer);
     // a proved loop has to end, and nothing says that the input does: no run uses up so many turns
     for _ in 0..u64::MAX {
-        let Some(line) = input.next_line(&mut line) else {
+        let Some(line) = lines.next_line(&mut line) else {
             break;
         };
         answer_line(&mut out, line, &mut into, &mut file)?;
+        out.after_line()?;
     }
     out.flush()
 }

@@ -6,13 +6,13 @@ use replay_answers::answer::Answer;
 use replay_answers::out::{Output, section};
 use replay_device::devices::{Device, Devices};
 use replay_lines::buffer::first;
-use replay_lines::input::Input;
+use replay_lines::input::Lines;
 use replay_lines::names::Call;
 use replay_lines::tokens::Tokens;
 use replay_steps::held::Held;
 use replay_steps::operations::Operations;
 use replay_steps::uploads::Uploads;
-use replay_world::world::World;
+use replay_world::world::{Things, World, new_world};
 use std::io::{Result, Write};
 
 // The lengths of the buffers, which differential/larger makes larger: of the room, the caller's data and the flash,
@@ -45,17 +45,17 @@ fn has_device(call: Call) -> bool {
 }
 
 // The sections of the things that stay.
-fn print_world<W: Write>(out: &mut W, call: Call, world: &World) -> Result<()> {
+fn print_things<W: Write>(out: &mut W, call: Call, things: &Things) -> Result<()> {
     if has_own(call)
-        && let Some(Held { record: _, length }) = world.operations.current
+        && let Some(Held { record: _, length }) = things.operations.current
     {
-        section(out, first(length, world.operations.own))?;
+        section(out, first(length, things.operations.own))?;
     }
     if has_device(call)
-        && let Some(Device { state, flash }) = world.devices.current
+        && let Some(Device { state, flash }) = things.devices.current
     {
-        let flash = first(flash, world.devices.flash);
-        let store = first(state.store_length, world.devices.store);
+        let flash = first(flash, things.devices.flash);
+        let store = first(state.store_length, things.devices.store);
         replay_shown::device(out, state, flash, store)?;
     }
     Ok(())
@@ -65,11 +65,11 @@ fn print<W: Write>(
     out: &mut W,
     call: Call,
     answer: Answer,
-    world: &World,
+    things: &Things,
     room: &[u8],
 ) -> Result<()> {
-    answer.print(out, room, world.operations.own)?;
-    print_world(out, call, world)
+    answer.print(out, room, things.operations.own)?;
+    print_things(out, call, things)
 }
 
 // A line's answer with its line feed.
@@ -77,36 +77,40 @@ fn print<W: Write>(
 fn answer_line<W: Write>(
     out: &mut W,
     line: &[u8],
-    world: &mut World,
+    things: &mut Things,
     data: &mut [u8; IMAGE],
     room: &mut [u8; ROOM],
 ) -> Result<()> {
     let mut tokens = Tokens::new(line);
     if let Some(call) = tokens.call()
-        && let Some(answer) = world.answer(call, tokens, data, room)
+        && let Some(answer) = things.answer(call, tokens, data, room)
     {
-        print(out, call, answer, world, room)?;
+        print(out, call, answer, things, room)?;
     } else {
         out.write_all(b"outside")?;
     }
     out.write_all(b"\n")
 }
 
-// Nothing yet. The buffers become slices here and not in `main`, which knows all of their bytes.
-fn new_world<'a>(
+// The things of a world in the buffers that they stand in, which become slices here and not in `main`: that knows all of their bytes.
+fn in_buffers<'a>(
+    world: World,
     own: &'a mut [u8; ROOM],
     image: &'a mut [u8; IMAGE],
     flash: &'a mut [u8; ROOM],
     store: &'a mut [u8; STORE],
-) -> World<'a> {
-    World {
-        operations: Operations { current: None, own },
+) -> Things<'a> {
+    Things {
+        operations: Operations {
+            current: world.operation,
+            own,
+        },
         uploads: Uploads {
-            current: None,
+            current: world.upload,
             image,
         },
         devices: Devices {
-            current: None,
+            current: world.device,
             flash,
             store,
         },
@@ -123,15 +127,16 @@ fn main(rt: HostRuntime) -> Result<()> {
     let mut own = [0u8; ROOM];
     let mut flash = [0u8; ROOM];
     let mut store = [0u8; STORE];
-    let mut world = new_world(&mut own, &mut image, &mut flash, &mut store);
-    let mut input = Input::new(rt.stdin(), &mut block);
+    let mut things = in_buffers(new_world(), &mut own, &mut image, &mut flash, &mut store);
+    let mut lines = Lines::new(rt.stdin(), &mut block);
     let mut out = Output::new(rt.stdout(), &mut buffer);
     // a proved loop has to end, and nothing says that the input does: no run uses up so many turns
     for _ in 0..u64::MAX {
-        let Some(line) = input.next_line(&mut line) else {
+        let Some(line) = lines.next_line(&mut line) else {
             break;
         };
-        answer_line(&mut out, line, &mut world, &mut data, &mut room)?;
+        answer_line(&mut out, line, &mut things, &mut data, &mut room)?;
+        out.after_line()?;
     }
     out.flush()
 }

@@ -7,7 +7,7 @@ mod sizes;
 
 use replay_answers::answer::{Answer, print_line};
 use replay_answers::out::Output;
-use replay_lines::input::Input;
+use replay_lines::input::Lines;
 use replay_lines::names::Call;
 use replay_lines::tokens::Tokens;
 use replay_steps::uploads::Uploads;
@@ -38,15 +38,16 @@ fn main(rt: HostRuntime) -> Result<()> {
         current: None,
         image: &mut image,
     };
-    let mut input = Input::new(rt.stdin(), &mut block);
+    let mut lines = Lines::new(rt.stdin(), &mut block);
     let mut out = Output::new(rt.stdout(), &mut buffer);
     // a proved loop has to end, and nothing says that the input does: no run uses up so many turns
     for _ in 0..u64::MAX {
-        let Some(line) = input.next_line(&mut line) else {
+        let Some(line) = lines.next_line(&mut line) else {
             break;
         };
         let answer = answer(line, &mut uploads, &mut data, &mut room);
         print_line(&mut out, answer, &room)?;
+        out.after_line()?;
     }
     out.flush()
 }

@@ -12,7 +12,7 @@ use operation_finish::{SectorTransfer, UsbReply};
 use protocol_codes::StorageIndex;
 use protocol_status::failure::UsbOperationError;
 use replay_lines::buffer::{first, first_mut};
-use replay_lines::input::Input;
+use replay_lines::input::Lines;
 use replay_lines::tokens::Tokens;
 use rule_number::RuleNumber;
 use run_operation::{RunError, run_whole};
@@ -258,11 +258,11 @@ fn run<R: Read + Drop, W: Write>(
     flash: &mut [u8; 16384],
 ) -> Result<()> {
     let mut head = Head::new(flash);
-    let mut input = Input::new(from, block);
+    let mut lines = Lines::new(from, block);
     let mut line = [0; 128];
     let mut tag = 0u32;
     for _ in 0..u64::MAX {
-        let Some(line) = input.next_line(&mut line) else {
+        let Some(line) = lines.next_line(&mut line) else {
             break;
         };
         head.answer(to, tag, line, flash)?;

@@ -7,7 +7,7 @@ use operation::starts::write_lba;
 use operation::steps::{UsbOperation, UsbStep};
 use operation_finish::{SectorTransfer, UsbReply};
 use replay_lines::buffer::first;
-use replay_lines::input::Input;
+use replay_lines::input::Lines;
 use replay_lines::tokens::Tokens;
 use rule_number::{OutOfSteps, RuleNumber};
 use std::io::{Read, Result, Write};
@@ -122,10 +122,10 @@ fn run<R: Read + Drop, W: Write>(
     block: &mut [u8],
     sectors: &mut [u8; 65536],
 ) -> Result<()> {
-    let mut input = Input::new(from, block);
+    let mut lines = Lines::new(from, block);
     let mut line = [0; 127];
     for _ in 0..u64::MAX {
-        let Some(line) = input.next_line(&mut line) else {
+        let Some(line) = lines.next_line(&mut line) else {
             break;
         };
         answer_line(to, line, sectors)?;
