@@ -1,11 +1,11 @@
 -- What crates above cite: append, range, linearity over xor, and the check value.
-use Prim.Native.Nat.{ℕ, zero, suc, ◌+◌, ◌*◌, ◌/◌, ◌%◌, ◌^◌, ◌≤◌, ◌<◌}
+use Prim.Native.Nat.{ℕ, zero, suc, ◌+◌, ◌-◌, ◌*◌, ◌/◌, ◌%◌, ◌^◌, ◌≤◌, ◌<◌}
 use mathlib.Core.Path.{◌≡◌, refl, ap, sym, ◌∙◌}
 use mathlib.Core.List.{List, [], ◌∷◌, ◌++◌}
 use native.Mathlib.Numerals.{add-one}
 use native.Mathlib.Omega.{arith}
 use lib.ListN.{length, get_or, take, drop, take-append-drop, drop_of_length-le}
-use lib.Seq.{drop-cons}
+use lib.Seq.{drop-cons, drop-drop}
 use lib.Bits.{bit_xor, xor_lt}
 use Rattle.crc.specs.Check.{polynomial, bit_step, bits_step, byte_step, crc_over, check}
 use Rattle.crc.proofs.Linear.{byte_linear}
@@ -48,6 +48,14 @@ step_lt c b h = over_lt c (b ∷ []) h
 pub over_next : (c i : ℕ) (bs : List ℕ) → i < length bs → crc_over c (drop i bs) ≡ crc_over (byte_step c (get_or bs i 0)) (drop (i + 1) bs)
 unfolding crc_over
 over_next c i bs h = ap (crc_over c) (drop-cons bs i 0 h) ∙ ap (λ (k : ℕ). crc_over (byte_step c (get_or bs i 0)) (drop k bs)) (sym (add-one i))
+
+-- a turn of a loop takes the next eight
+pub next_eight : (c i : ℕ) (bs : List ℕ) → crc_over (crc_over c (take (i + 8 - i) (drop i bs))) (drop (i + 8) bs) ≡ crc_over c (drop i bs)
+next_eight c i bs =
+    let eight : i + 8 - i ≡ 8 = omega arith in
+    ap (λ (k : ℕ). crc_over (crc_over c (take k (drop i bs))) (drop (i + 8) bs)) eight
+    ∙ ap (crc_over (crc_over c (take 8 (drop i bs)))) (sym (drop-drop 8 i bs))
+    ∙ over_split c 8 (drop i bs)
 
 -- past the end nothing is left
 pub over_past : (c i : ℕ) (bs : List ℕ) → length bs ≤ i → crc_over c (drop i bs) ≡ c

@@ -35,7 +35,7 @@ module _ (r : Line) (text : List ℕ) (e : r ≡ line text) where
       let sum = simp (length-append, length-replicate) at there in
       omega arith
 
-  used_short : length r.bytes ≡ longest_line → r.used ≤ longest_line
+  pub used_short : length r.bytes ≡ longest_line → r.used ≤ longest_line
   used_short long = let short = text_short long in let n : r.used ≡ length text = ap (λ (l : Line). l.used) e in omega arith
 
   pub text_there : take r.used r.bytes ≡ text

@@ -82,7 +82,7 @@ module _ (P : ℕ → Type 0) (small : (n : ℕ) → n < 10 → P n) (large : (n
       on_test (ltb n 10) (λ t. small n (ltb-true n 10 t))
       (λ t. let ten = ltb-false n 10 t in large n ten (up_to most (n / 10) (omega arith)))
 
-  by_tenths : (n : ℕ) → P n
+  pub by_tenths : (n : ℕ) → P n
   by_tenths n = up_to n n (omega arith)
 
 read_append : (n : ℕ) (a b : List ℕ) → read_on n (a ++ b) ≡ read_on (read_on n a) b

@@ -16,7 +16,8 @@ module _ (b : List ℕ) (n : ℕ) (long : length b ≡ n) where
   at_place : (at k : ℕ) → at + k ≤ n → field at k b ≡ elements k at b
   at_place at k inside = field_elements k at b (omega arith)
 
-module _ (b : List ℕ) (long : length b ≡ 102) where
+-- a header's fields are in the first 45 bytes, whatever stands behind them
+module _ (b : List ℕ) (long : 45 ≤ length b) where
   pub header_fields : {size version merge : ℕ} {release : RkTime} {list₁ list₂ list₃ : RkBootHeaderEntry} → size ≡ from_low (elements 2 4 b)
       → version ≡ from_low (elements 4 6 b) → merge ≡ from_low (elements 4 10 b) → release ≡ time_of (elements 7 14 b) → list₁ ≡ list_of (elements 6 25 b)
       → list₂ ≡ list_of (elements 6 31 b) → list₃ ≡ list_of (elements 6 37 b)
@@ -45,15 +46,15 @@ module _ (b : List ℕ) (long : length b ≡ 102) where
         e₅,
         e₆,
         e₇,
-        at_place b 102 long 0 4 (omega arith),
-        at_place b 102 long 4 2 (omega arith),
-        at_place b 102 long 6 4 (omega arith),
-        at_place b 102 long 10 4 (omega arith),
-        at_place b 102 long 14 7 (omega arith),
-        at_place b 102 long 21 4 (omega arith),
-        at_place b 102 long 25 6 (omega arith),
-        at_place b 102 long 31 6 (omega arith),
-        at_place b 102 long 37 6 (omega arith),
+        at_place b (length b) refl 0 4 (omega arith),
+        at_place b (length b) refl 4 2 (omega arith),
+        at_place b (length b) refl 6 4 (omega arith),
+        at_place b (length b) refl 10 4 (omega arith),
+        at_place b (length b) refl 14 7 (omega arith),
+        at_place b (length b) refl 21 4 (omega arith),
+        at_place b (length b) refl 25 6 (omega arith),
+        at_place b (length b) refl 31 6 (omega arith),
+        at_place b (length b) refl 37 6 (omega arith),
       )
       refl
 

@@ -131,6 +131,9 @@ module _ (bytes old : List ℕ) where
   unfolding cells_told
   tells_success e = let t : took bytes old ≡ true = ap (λ (l : List ℕ). same l bytes) e ∙ same_itself bytes in ap (λ (b : Bool). pick b SUCCESS FAILED) t
 
+  pub told_failed : cells_told bytes old ≡ FAILED → programmed bytes old ≡ bytes → ⊥
+  told_failed e same = let f : SUCCESS ≡ FAILED = sym (tells_success same) ∙ e in let z : ◌≡◌ {A = ℕ} 0 1 = cc in omega arith
+
   pub tells_failed : (programmed bytes old ≡ bytes → ⊥) → cells_told bytes old ≡ FAILED
   unfolding cells_told
   tells_failed h = ap (λ (b : Bool). pick b SUCCESS FAILED) (same_differs (programmed bytes old) bytes h)

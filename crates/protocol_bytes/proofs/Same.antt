@@ -13,6 +13,10 @@ both_true : (t u : Bool) → pick t u false ≡ true → (t ≡ true) × (u ≡ 
 both_true true u h = (refl, h)
 both_true false u h = let z : ◌≡◌ {A = ℕ} 0 1 = cc in absurd (omega arith)
 
+pub pick_itself : (t : Bool) → pick t true false ≡ t
+pick_itself true = refl
+pick_itself false = refl
+
 pub same_equal : (xs ys : List ℕ) → same xs ys ≡ true → xs ≡ ys
 unfolding same
 same_equal [] [] h = refl

@@ -1,13 +1,29 @@
--- A writer that refuses a short buffer and leaves it, or copies its block to the buffer's front: what its contract allows.
-use Prim.Native.Nat.{ℕ}
+-- A writer that refuses a short buffer and leaves it, or copies its block to the buffer's front.
+use Prim.Native.Nat.{ℕ, ◌<◌, ◌≤◌}
 use mathlib.Core.Path.{◌≡◌, refl, ap, sym, ◌∙◌}
-use mathlib.Core.List.{List}
+use mathlib.Core.List.{List, ◌++◌}
+use borrow.Author.Tests.{lt-ltb, le-ltb}
+use lib.ListN.{length, take, drop}
+use lib.Seq.{take-length}
 use Rattle.promise.specs.Told.{Told, given, refused, number}
+use Rattle.promise.specs.Rules.{or_refuse}
 use Rattle.protocol_bytes.specs.Writing.{writing, written_told, WriteMeets}
 use Rattle.std.specs.Prelude.{Result}
 use Rattle.rule_number.specs.declared.OutputTooShort.{OutputTooShort}
 use Rattle.rule_number.specs.Number.{number_of, output_too_short_number}
 use Rattle.std.specs.declared.result.Result.TheVariants.{Ok, Err}
+
+module _ (whole : ℕ) (block before : List ℕ) where
+  pub writes_nothing : length before < whole → WriteMeets (Err (record {})) before before (writing whole block (length before))
+  unfolding writing or_refuse written_told
+  writes_nothing short = rw (lt-ltb (length before) whole short) (record { tells = refl; leaves = refl })
+
+  pub writes_block : (after : List ℕ) → whole ≤ length before → after ≡ take (length block) block ++ drop (length block) before
+      → WriteMeets (Ok whole) before after (writing whole block (length before))
+  unfolding writing or_refuse written_told
+  writes_block after enough e =
+      rw (le-ltb (length before) whole enough)
+      (record { tells = refl; leaves = e ∙ ap (λ (l : List ℕ). l ++ drop (length block) before) (take-length block) })
 
 -- two answers that a writer's contract allows are equal, and so are the buffers they leave
 abbrev answer_of : Told ℕ → (Result ℕ OutputTooShort)

@@ -22,14 +22,14 @@ use Rattle.protocol_codes.specs.declared.UnknownStatus.{UnknownStatus}
 use Rattle.protocol_codes.specs.declared.ResetOpcode.{ResetOpcode}
 use Rattle.protocol_codes.specs.declared.UnknownReset.{UnknownReset}
 
--- `number` of `Direction`, `CommandCode`, `Status`, `ResetOpcode`, `StorageIndex` with one number for all values
+-- `u8::from` of `Direction`, `CommandCode`, `Status`, `ResetOpcode`, `StorageIndex` with one number for all values
 pub one_number_for_all : (n : ℕ)
     → (n ≡ direction_number In → n ≡ direction_number Out → ⊥) × (n ≡ code_number ReadLBA → n ≡ code_number WriteLBA → ⊥)
     × (n ≡ status_number SUCCESS → n ≡ status_number FAILED → ⊥) × (n ≡ reset_number Reset → n ≡ reset_number Disconnect → ⊥)
     × (n ≡ storage_number Nand → n ≡ storage_number Emmc → ⊥)
 one_number_for_all n = ((λ e f. omega arith), (λ e f. omega arith), (λ e f. omega arith), (λ e f. omega arith), (λ e f. omega arith))
 
--- `number` with a value's place in its enum, counted from 0 for directions and codes and from 1 for the others, whose numbers are their places from 0
+-- `u8::from` with a value's place in its enum, counted from 0 for directions and codes and from 1 for the others, whose numbers are their places from 0
 pub place_for_number : (0 ≡ direction_number In → ⊥) × (6 ≡ code_number EraseForce → ⊥) × (1 ≡ status_number SUCCESS → ⊥) × (5 ≡ reset_number Disconnect → ⊥)
     × (13 ≡ storage_number Ufs → ⊥)
 place_for_number = ((λ e. omega arith), (λ e. omega arith), (λ e. omega arith), (λ e. omega arith), (λ e. omega arith))
